@@ -1,0 +1,51 @@
+-- When a setting is accepted or refused.
+use mathlib.Core.Path.{_≡_, refl, sym, ap, subst, _∙_}
+use mathlib.Core.Bool.{Bool, true, false, _&&_, not, cond}
+use mathlib.Core.List.{List, [], _∷_}
+use mathlib.Core.Logic.{_⊎_, inl, inr, ⊎-elim}
+use Prim.Native.Nat.{ℕ, _≤_, _<_}
+use native.Mathlib.Omega.{arith}
+use lib.Dec.{eqb, ltb, leb}
+use Rattle.std.proofs.shelf.Tests.{cases-bool, lt-leb, eq-eqb, ne-eqb}
+use Rattle.std.proofs.shelf.Ways.{tells}
+use Rattle.std.specs.declared.option.Option.{Option}
+use Rattle.std.specs.declared.option.Option.the-variants.{Some, None}
+use Rattle.std.specs.declared.result.Result.the-variants.{Ok, Err}
+use Rattle.access.specs.Policy.{Matrix, Meaning, with-pair}
+use Rattle.access.specs.Contexts.{both-inside}
+use Rattle.access.specs.Sound.{filled}
+use Rattle.access.specs.Refusals.{first-of, answer}
+use Rattle.access.specs.Operations.{unknown}
+use Rattle.access.specs.Setting.{no-room, setting-refusal}
+use Rattle.access.specs.declared.refusal.Refusal.{Refusal}
+use Rattle.access.specs.declared.refusal.Refusal.the-variants.{ContextOutside, UnfitOperations, PolicyFull}
+
+pub inside-parts : (n s t : ℕ) → both-inside n s t ≡ true → (1 ≤ s) × (s ≤ n) × (1 ≤ t) × (t ≤ n)
+inside-parts n s t h = grind (arith, tells)
+
+pub accepted : (m : Meaning) (s t ops : ℕ) → both-inside (m .contexts) s t ≡ true → ops < 4096
+    → ((ops ≡ 0 → ⊥) → m .written s t ≡ 0 → filled m ≡ m .capacity → ⊥) → setting-refusal m s t ops ≡ None
+accepted m s t ops inside known room =
+    past ∙ ⊎-elim (λ h. absurd (full h)) (λ h. rw h refl) (cases-bool (no-room m s t ops))
+  where
+    past : setting-refusal m s t ops ≡ cond (no-room m s t ops) (Some PolicyFull) None
+    past = rw (inside, lt-leb 4096 ops known) refl
+
+    full : no-room m s t ops ≡ true → ⊥
+    full h = room (λ z. grind (arith, tells)) (grind (arith, tells)) (grind (arith, tells))
+
+-- a setting is accepted only where its contexts are inside
+pub accepted-inside : (m : Meaning) (s t ops : ℕ) → setting-refusal m s t ops ≡ None → both-inside (m .contexts) s t ≡ true
+accepted-inside m s t ops e = go (both-inside (m .contexts) s t) e
+  where
+    go : (b : Bool) → first-of ((not b, ContextOutside) ∷ (unknown ops, UnfitOperations) ∷ (no-room m s t ops, PolicyFull) ∷ []) ≡ None → b ≡ true
+    go true e = refl
+    go false e = let z : _≡_ {A = ℕ} 0 1 = cc in absurd (omega arith)
+
+pub answer-err : (o : Option Refusal) (r : Refusal) → Err r ≡ answer o → o ≡ Some r
+answer-err None r e = let z : _≡_ {A = ℕ} 0 1 = cc in absurd (omega arith)
+answer-err (Some q) r e = cc
+
+pub answer-ok : (o : Option Refusal) → Ok tt ≡ answer o → o ≡ None
+answer-ok None e = refl
+answer-ok (Some q) e = let z : _≡_ {A = ℕ} 0 1 = cc in absurd (omega arith)
