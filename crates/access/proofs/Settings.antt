@@ -20,19 +20,24 @@ use Rattle.access.specs.Setting.{no-room, setting-refusal}
 use Rattle.access.specs.declared.refusal.Refusal.{Refusal}
 use Rattle.access.specs.declared.refusal.Refusal.the-variants.{ContextOutside, UnfitOperations, PolicyFull}
 
-pub inside-parts : (n s t : ℕ) → both-inside n s t ≡ true → (1 ≤ s) × (s ≤ n) × (1 ≤ t) × (t ≤ n)
-inside-parts n s t h = grind (arith, tells)
+pub pair-inside : (n s t : ℕ) → 1 ≤ s → s ≤ n → 1 ≤ t → t ≤ n → both-inside n s t ≡ true
+pair-inside n s t a b c d = grind (arith, tells)
 
-pub accepted : (m : Meaning) (s t ops : ℕ) → both-inside (m .contexts) s t ≡ true → ops < 4096
-    → ((ops ≡ 0 → ⊥) → m .written s t ≡ 0 → filled m ≡ m .capacity → ⊥) → setting-refusal m s t ops ≡ None
-accepted m s t ops inside known room =
-    past ∙ ⊎-elim (λ h. absurd (full h)) (λ h. rw h refl) (cases-bool (no-room m s t ops))
-  where
-    past : setting-refusal m s t ops ≡ cond (no-room m s t ops) (Some PolicyFull) None
-    past = rw (inside, lt-leb 4096 ops known) refl
+pub pair-parts : (n s t : ℕ) → both-inside n s t ≡ true → (1 ≤ s) × (s ≤ n) × (1 ≤ t) × (t ≤ n)
+pair-parts n s t h = grind (arith, tells)
 
-    full : no-room m s t ops ≡ true → ⊥
-    full h = room (λ z. grind (arith, tells)) (grind (arith, tells)) (grind (arith, tells))
+module _ (m : Meaning) (s t ops : ℕ) (inside : both-inside (m .contexts) s t ≡ true) (known : ops < 4096) where
+  past : setting-refusal m s t ops ≡ cond (no-room m s t ops) (Some PolicyFull) None
+  past = rw (inside, lt-leb 4096 ops known) refl
+
+  pub accepted : ((ops ≡ 0 → ⊥) → m .written s t ≡ 0 → filled m ≡ m .capacity → ⊥) → setting-refusal m s t ops ≡ None
+  accepted room = past ∙ ⊎-elim (λ h. absurd (none h)) (λ h. rw h refl) (cases-bool (no-room m s t ops))
+    where
+      none : no-room m s t ops ≡ true → ⊥
+      none h = room (λ z. grind (arith, tells)) (grind (arith, tells)) (grind (arith, tells))
+
+  pub full : (ops ≡ 0 → ⊥) → m .written s t ≡ 0 → filled m ≡ m .capacity → setting-refusal m s t ops ≡ Some PolicyFull
+  full a b c = past ∙ rw (ne-eqb ops 0 a, eq-eqb (m .written s t) 0 b, eq-eqb (filled m) (m .capacity) c) refl
 
 -- a setting is accepted only where its contexts are inside
 pub accepted-inside : (m : Meaning) (s t ops : ℕ) → setting-refusal m s t ops ≡ None → both-inside (m .contexts) s t ≡ true

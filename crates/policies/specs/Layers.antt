@@ -4,7 +4,7 @@ use Prim.Native.Nat.{ℕ}
 use lib.Dec.{eqb, leb}
 use Rattle.access.specs.Operations.{without, set-of, read-op, write-op, execute-op, any-op}
 use Rattle.access.specs.Contexts.{both-inside}
-use Rattle.access.specs.Policy.{Matrix}
+use Rattle.access.specs.Policy.{Matrix, Meaning, with-permitted}
 
 -- all twelve operations on each pair of contexts
 abbrev pub all-twelve : ℕ → Matrix
@@ -23,3 +23,9 @@ level-rule level below s t =
 -- the owner rule: the operations of `constrained` only between contexts of one owner
 abbrev pub owner-rule : (ℕ → ℕ) → ℕ → Matrix → Matrix
 owner-rule owner constrained below s t = unless (eqb (owner s) (owner t)) constrained (below s t)
+
+abbrev pub with-levels : Meaning → (ℕ → ℕ) → Meaning
+with-levels m level = with-permitted m (level-rule level (m .permitted))
+
+abbrev pub with-owners : Meaning → (ℕ → ℕ) → ℕ → Meaning
+with-owners m owner constrained = with-permitted m (owner-rule owner constrained (m .permitted))
