@@ -1,0 +1,2 @@
+pub mod Layered
+pub mod LayerLeaves

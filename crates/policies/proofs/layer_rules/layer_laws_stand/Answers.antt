@@ -1,5 +1,0 @@
-use Rattle.policies.proofs.LayerLeaves.{level-leaves, owner-leaves}
-use Rattle.policies.proofs.layer_rules.layer_laws_stand.Needs as need
-
-pub returns : need.returns
-returns c = record { levels = level-leaves; owners = owner-leaves }
