@@ -33,6 +33,10 @@ chain-meaning n first mem = record {
 abbrev pub table-meaning : RecordTable → Meaning
 table-meaning p = chain-meaning (p .contexts) (first-of (p .heads)) (numbered (p .records .slots))
 
+-- a table with no pair
+abbrev pub empty-table : ℕ → Meaning
+empty-table n = record { contexts = n; capacity = 1024; written = λ s t. 0; permitted = all-twelve n }
+
 -- the pair has record i
 abbrev pub Has : RecordTable → ℕ → ℕ → ℕ → Type 0
 Has p s t i = (held p s t ≡ Some i) × (1 ≤ i) × (i ≤ 1024)

@@ -1,13 +1,13 @@
 //! The record table as a policy.
 ghost use mathlib.Core.Path.{_≡_};
-ghost use Prim.Native.Nat.{ℕ, _-_, _≤_, _<_, min, max};
+ghost use Prim.Native.Nat.{_-_, _≤_, _<_, min, max};
 ghost use lib.ListN.{set};
 ghost use Rattle.std.specs.Options.{Cases};
 ghost use Rattle.access.specs.Contexts.{inside};
 ghost use Rattle.access.specs.Setting.{with-set};
 ghost use Rattle.record_table.specs.Chains.{numbered, first-of, ahead, cut-heads, cut-slots, Links-low};
 ghost use Rattle.record_table.specs.Chained.{Table-chained};
-ghost use Rattle.record_table.specs.TableMeaning.{table-meaning, Pair, held, Has, Lacks};
+ghost use Rattle.record_table.specs.TableMeaning.{table-meaning, empty-table, Pair, held, Has, Lacks};
 use crate::records::Key;
 use crate::records::Record;
 use crate::records::Records;
@@ -76,8 +76,7 @@ fn push(
 impl RecordTable {
     /// A table with no pair, for the number of contexts from 1 to 256 that is nearest to the wished one.
     pub fn new(wished: u16) -> RecordTable
-        ensures nearest { λ r. ⌜ table-meaning r .contexts ≡ min (max wished 1) 256 ⌝ }
-        ensures empty { λ r. ⌜ ((s t : ℕ) → table-meaning r .written s t ≡ 0) ⌝ }
+        ensures { λ r. ⌜ table-meaning r ≡ empty-table (min (max wished 1) 256) ⌝ }
     {
         let mut heads = [0; 257];
         heads[0] = 1;
