@@ -1,5 +1,5 @@
 -- What a policy means.
-use mathlib.Core.Bool.{_&&_, cond}
+use mathlib.Core.Bool.{Bool, _&&_, cond}
 use Prim.Native.Nat.{ℕ}
 use lib.Dec.{T, eqb}
 use Rattle.access.specs.Operations.{has}
@@ -30,7 +30,11 @@ pub record Interaction : Type 0 where
   pub target : ℕ
   pub operation : ℕ
 
--- the policy allows an interaction
+-- whether a matrix has an interaction's operation on its pair
+abbrev pub holds : Matrix → Interaction → Bool
+holds w i = has (w (i .subject) (i .target)) (i .operation)
+
+-- the policy allows an interaction: its operation is both written and permitted
 pub record Allows (m : Meaning) (i : Interaction) : Type 0 where
-  pub is-written : T (has (m .written (i .subject) (i .target)) (i .operation))
-  pub is-permitted : T (has (m .permitted (i .subject) (i .target)) (i .operation))
+  pub is-written : T (holds (m .written) i)
+  pub is-permitted : T (holds (m .permitted) i)

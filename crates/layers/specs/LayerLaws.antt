@@ -4,11 +4,11 @@ use mathlib.Core.Logic.{_↔_}
 use Prim.Native.Nat.{ℕ, _≤_}
 use lib.Dec.{T}
 use Rattle.access.specs.Operations.{has, read-op, write-op, execute-op}
-use Rattle.access.specs.Policy.{Meaning, Interaction}
+use Rattle.access.specs.Policy.{Meaning, Interaction, holds}
 use Rattle.layers.specs.Layers.{with-levels, with-owners}
 
 abbrev pub Permits : Meaning → Interaction → Type 0
-Permits m i = T (has (m .permitted (i .subject) (i .target)) (i .operation))
+Permits m i = T (holds (m .permitted) i)
 
 -- a subject reads no lower level, and neither writes to a higher level nor executes there
 pub record Respects-levels (level : ℕ → ℕ) (i : Interaction) : Type 0 where

@@ -1,0 +1,13 @@
+pub mod Bounded
+pub mod Reduction
+pub mod Moves
+pub mod Chains
+pub mod Inside
+pub mod Agreement
+pub mod Walks
+pub mod Searching
+pub mod Domains
+pub mod Decided
+pub mod Lowest
+pub mod Exists
+pub mod Judged

@@ -1,0 +1,5 @@
+pub mod Checks
+pub mod Bounds
+pub mod Steps
+pub mod Piles
+pub mod Controller
