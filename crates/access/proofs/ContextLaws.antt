@@ -4,18 +4,16 @@ use mathlib.Core.Bool.{Bool, true, false, _&&_, _||_, not}
 use mathlib.Core.List.{List}
 use mathlib.Core.Logic.{⊎-elim}
 use Prim.Native.Nat.{ℕ, zero, suc, _+_, _-_, _*_, _/_, _%_, _^_, _≤_, _<_}
-use native.Mathlib.Nat.{div-eq-of-lt, lt-of-lt-of-le}
 use native.Mathlib.Omega.{arith}
 use lib.Bits.{bitAnd, bitOr}
-use lib.Dec.{T, eqb, leb, ltb}
+use lib.Dec.{T, eqb, ltb}
 use lib.ListN.{length, getD, set}
-use lib.Pow.{shr-shr, pow-mono}
+use lib.Pow.{shr-shr}
 use lib.Seq.{getD-set-same, getD-set-other}
 use Rattle.std.proofs.shelf.Tests.{cases-eq, cases-lt, cases-bool, eq-eqb, ne-eqb, lt-ltb, le-ltb, and-parts}
-use Rattle.std.proofs.shelf.Bits.{shr-le}
 use Rattle.std.proofs.shelf.Ways.{tells}
 use Rattle.access.specs.Operations.{has}
-use Rattle.access.specs.Contexts.{inside, member, some-to, has-above, empty, meet}
+use Rattle.access.specs.Contexts.{inside, member, some-to, has-above}
 use Rattle.access.specs.declared.context_set.ContextSet.{ContextSet}
 use Rattle.access.proofs.Bits.{has-none, has-and, has-or, has-power, has-some, has-below}
 use Rattle.access.proofs.Tests.{T-true, differ, or-true, and-false}

@@ -3,10 +3,8 @@ use mathlib.Core.Path.{_≡_, sym, subst}
 use mathlib.Core.Bool.{Bool, true, false, not, _||_}
 use mathlib.Core.Logic.{_↔_, ⊎-elim}
 use Prim.Native.Nat.{ℕ, _≤_}
-use native.Mathlib.Omega.{arith}
 use lib.Dec.{T, eqb, leb, eqb→eq, eqb-refl, leb→le, le→leb, T-not, not-T}
 use Rattle.access.specs.Operations.{has, set-of, read-op, write-op, execute-op, read-like, write-like, execute-like}
-use Rattle.access.specs.Policy.{Meaning, Interaction}
 use Rattle.access.proofs.Bits.{has-none, has-without}
 use Rattle.access.proofs.OperationLaws.{has-kinds}
 use Rattle.access.proofs.Tests.{both, both-parts, left, right, either-part}

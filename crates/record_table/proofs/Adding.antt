@@ -7,7 +7,7 @@ use lib.ListN.{length}
 use Rattle.std.proofs.shelf.Tests.{eq-eqb, ne-eqb}
 use Rattle.std.proofs.shelf.Ways.{tells}
 use Rattle.std.specs.declared.option.Option.the-variants.{None}
-use Rattle.access.specs.Policy.{with-pair, with-written}
+use Rattle.access.specs.Policy.{with-pair}
 use Rattle.access.specs.Sound.{some}
 use Rattle.record_table.specs.declared.records.Record.{Record}
 use Rattle.record_table.specs.Chains.{found}

@@ -6,7 +6,7 @@ use native.Mathlib.Omega.{arith}
 use Rattle.std.proofs.shelf.Tests.{cases-eq, ne-eqb}
 use Rattle.std.proofs.shelf.Ways.{tells}
 use Rattle.std.specs.declared.option.Option.the-variants.{Some}
-use Rattle.access.specs.Policy.{with-pair, with-written}
+use Rattle.access.specs.Policy.{with-pair}
 use Rattle.record_table.specs.declared.records.Record.{Record}
 use Rattle.record_table.specs.Chains.{found}
 use Rattle.record_table.specs.Laid.{look, Fit, Tidy, held-by, Laid}

@@ -11,7 +11,7 @@ use Rattle.std.proofs.shelf.Tests.{cases-bool, eqb-true, and-parts, both-ways}
 use Rattle.std.proofs.shelf.Ways.{tells}
 use Rattle.std.specs.declared.option.Option.{Option}
 use Rattle.std.specs.declared.option.Option.the-variants.{Some, None}
-use Rattle.access.specs.Policy.{with-pair, with-written}
+use Rattle.access.specs.Policy.{with-pair}
 use Rattle.access.specs.Contexts.{both-inside}
 use Rattle.access.specs.Sound.{some, row, pairs}
 use Rattle.access.proofs.Pairs.{row-alike, row-with, row-none, row-most, pairs-alike, pairs-with}

@@ -7,7 +7,7 @@ use lib.ListN.{length}
 use Rattle.std.proofs.shelf.Tests.{eq-eqb, ne-eqb}
 use Rattle.std.specs.declared.option.Option.{Option}
 use Rattle.std.specs.declared.option.Option.the-variants.{Some, None}
-use Rattle.access.specs.Policy.{with-pair, with-written}
+use Rattle.access.specs.Policy.{with-pair}
 use Rattle.record_table.specs.declared.records.Record.{Record}
 use Rattle.record_table.specs.Chains.{found, ahead}
 use Rattle.record_table.specs.Laid.{In, Linked, look, Tidy, held-by, Laid}

@@ -5,10 +5,8 @@ use mathlib.Core.List.{List, [], _∷_}
 use mathlib.Core.Logic.{inl, inr, ⊎-elim, _↔_}
 use Prim.Native.Nat.{ℕ, _<_}
 use lib.Dec.{T, eqb, eqb→eq, not-T, T-not}
-use lib.ListN.{List·getD-eq-default}
 use Rattle.std.specs.shelf.Lists.{All}
-use Rattle.std.proofs.shelf.Tests.{cases-lt}
-use Rattle.access.specs.Operations.{kinds, kind-of, has, read-op, write-op, become-op, read-like, write-like, become-like}
+use Rattle.access.specs.Operations.{kind-of, has, read-op, write-op, become-op, read-like, write-like, become-like}
 use Rattle.access.specs.declared.operation.Kind.{Kind}
 use Rattle.access.specs.declared.operation.Kind.the-variants.{Neither}
 use Rattle.access.specs.Policy.{Meaning, Interaction}

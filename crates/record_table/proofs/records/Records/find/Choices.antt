@@ -1,6 +1,5 @@
 use Prim.Native.Nat.{_≤_}
 use mathlib.Core.Path.{_≡_}
-use lib.Dec.{eqb}
 use Rattle.record_table.specs.Chains.{first-that, matches, numbered}
 use Rattle.record_table.proofs.records.Records.find.Given as given
 
