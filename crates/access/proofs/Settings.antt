@@ -5,7 +5,7 @@ use mathlib.Core.List.{[], _∷_}
 use mathlib.Core.Logic.{_⊎_, ⊎-elim}
 use Prim.Native.Nat.{ℕ, _≤_, _<_}
 use native.Mathlib.Omega.{arith}
-use Rattle.std.proofs.shelf.Tests.{cases-bool, lt-leb, eq-eqb, ne-eqb}
+use Rattle.std.proofs.shelf.Tests.{cases-bool, lt-leb}
 use Rattle.std.proofs.shelf.Ways.{tells}
 use Rattle.std.specs.declared.option.Option.{Option}
 use Rattle.std.specs.declared.option.Option.the-variants.{Some, None}
@@ -34,9 +34,6 @@ module _ (m : Meaning) (s t ops : ℕ) (inside : both-inside (m .contexts) s t �
     where
       none : no-room m s t ops ≡ true → ⊥
       none h = room (λ z. grind (arith, tells)) (grind (arith, tells)) (grind (arith, tells))
-
-  pub full : (ops ≡ 0 → ⊥) → m .written s t ≡ 0 → filled m ≡ m .capacity → setting-refusal m s t ops ≡ Some PolicyFull
-  full a b c = past ∙ rw (ne-eqb ops 0 a, eq-eqb (m .written s t) 0 b, eq-eqb (filled m) (m .capacity) c) refl
 
 -- a setting is accepted only where its contexts are inside
 pub accepted-inside : (m : Meaning) (s t ops : ℕ) → setting-refusal m s t ops ≡ None → both-inside (m .contexts) s t ≡ true

@@ -1,6 +1,6 @@
 -- The record table keeps what every policy keeps.
-use mathlib.Core.Path.{_≡_, refl, ap, ap₂, _∙_, fun-ext}
-use mathlib.Core.Bool.{true, _&&_}
+use mathlib.Core.Path.{_≡_, refl, sym, ap, ap₂, _∙_, fun-ext}
+use mathlib.Core.Bool.{Bool, true, false, not, _&&_}
 use mathlib.Core.List.{List}
 use mathlib.Core.Logic.{⊎-elim, ∥∥₁-elim, ∥∥₁-map}
 use Prim.Native.Nat.{ℕ, _-_, _≤_, _<_}
@@ -9,21 +9,20 @@ use native.Mathlib.Bridge.{le-prop}
 use native.Mathlib.Omega.{arith}
 use lib.Dec.{eqb}
 use lib.ListN.{length, set}
-use Rattle.std.proofs.shelf.Tests.{cases-bool, eqb-true, and-parts}
+use Rattle.std.proofs.shelf.Tests.{cases-bool, cases-eq, eqb-true, eq-eqb, ne-eqb, and-parts}
 use Rattle.std.specs.Options.{Cases}
 use Rattle.std.specs.declared.option.Option.{Option}
 use Rattle.std.specs.declared.option.Option.the-variants.{Some, None}
 use Rattle.access.specs.Policy.{with-pair, with-written}
 use Rattle.access.specs.Contexts.{both-inside}
 use Rattle.access.specs.Sound.{Sound, filled}
-use Rattle.access.specs.Setting.{setting-refusal, with-set}
-use Rattle.access.specs.declared.refusal.Refusal.the-variants.{PolicyFull}
-use Rattle.access.proofs.Settings.{pair-inside, accepted, full}
+use Rattle.access.specs.Setting.{no-room, with-set}
+use Rattle.access.proofs.Settings.{pair-inside}
 use Rattle.record_table.specs.declared.records.Record.{Record}
 use Rattle.record_table.specs.declared.table.RecordTable.{RecordTable}
 use Rattle.record_table.specs.Chains.{numbered, first-of, ahead, cut-heads, cut-slots}
 use Rattle.record_table.specs.Laid.{Laid}
-use Rattle.record_table.specs.TableMeaning.{chain-meaning, table-meaning, held, Has, Lacks, Pair}
+use Rattle.record_table.specs.TableMeaning.{chain-meaning, table-meaning, held, Has, Lacks, Own, Pair}
 use Rattle.record_table.proofs.Chains.{upd, begins, ends}
 use Rattle.record_table.proofs.Layouts.{Effect, written-is, written-after, filled-is, known-all, held-some, held-first}
 use Rattle.record_table.proofs.Changing.{changed, with-operations}
@@ -95,6 +94,10 @@ module _ (p : RecordTable) where
   cut-mems None gone h = refl
   cut-mems (Some b) gone h = numbered-set slots b (linked-as (mem b) gone) (h .0) (omega (arith, h .1, p .sizes .3))
 
+  pub own-from : (s t : ℕ) (o : Option ℕ) → o ≡ held p s t → Within o → Own p s t o
+  own-from s t None e h = sym e
+  own-from s t (Some i) e h = (sym e, h .0, h .1)
+
   module _ (s t : ℕ) (at : Pair (p .contexts) s t) where
     inside : both-inside n s t ≡ true
     inside = pair-inside n s t (at .0) (at .1) (at .2) (at .3)
@@ -108,17 +111,26 @@ module _ (p : RecordTable) where
     pub has-chain : (i : ℕ) → held p s t ≡ Some i → 1 ≤ first-of (p .heads) s
     has-chain i e = ∥∥₁-elim (p .laid) le-prop (λ l. held-first n first mem l s t i at e)
 
-    pub accept-has : (v i : ℕ) → v < 4096 → held p s t ≡ Some i → setting-refusal (table-meaning p) s t v ≡ None
-    accept-has v i known e = accepted (table-meaning p) s t v inside known (λ _ z _. let a = some-written i e in omega (arith, a, z))
+    -- nothing is needed for no operations, nor for a pair that has a record; else an unused record
+    pub room-for-none : (v : ℕ) → eqb v 0 ≡ true → no-room (table-meaning p) s t v ≡ false
+    room-for-none v e = rw e refl
 
-    pub accept-empty : setting-refusal (table-meaning p) s t 0 ≡ None
-    accept-empty = accepted (table-meaning p) s t 0 inside (omega arith) (λ z _ _. z refl)
+    pub room-for-own : (v i : ℕ) → Has p s t i → no-room (table-meaning p) s t v ≡ false
+    room-for-own v i has = rw (ne-eqb (table-meaning p .written s t) 0 (λ z. let a = some-written i (has .0) in omega (arith, a, z))) (no-pair (not (eqb v 0)))
+      where
+        no-pair : (b : Bool) → (b && false && eqb (filled (table-meaning p)) 1024) ≡ false
+        no-pair true = refl
+        no-pair false = refl
 
-    pub accept-room : (v : ℕ) → v < 4096 → 1 ≤ first-of (p .heads) 0 → setting-refusal (table-meaning p) s t v ≡ None
-    accept-room v known h = accepted (table-meaning p) s t v inside known (λ _ _ z. let a = room-is h in omega (arith, a, z))
-
-    pub refuse-full : (v : ℕ) → v < 4096 → (v ≡ 0 → ⊥) → Lacks p s t → first-of (p .heads) 0 ≡ 0 → setting-refusal (table-meaning p) s t v ≡ Some PolicyFull
-    refuse-full v known ne e z = full (table-meaning p) s t v inside known ne (none-written e) (full-is z)
+    pub room-for-new : (v : ℕ) → eqb v 0 ≡ false → Lacks p s t → eqb (first-of (p .heads) 0) 0 ≡ no-room (table-meaning p) s t v
+    room-for-new v e lacks =
+        ⊎-elim
+        (λ z. eq-eqb (first 0) 0 z ∙ sym (is (filled (table-meaning p)) (eq-eqb (filled (table-meaning p)) 1024 (full-is z))))
+        (λ n. ne-eqb (first 0) 0 n ∙ sym (is (filled (table-meaning p)) (ne-eqb (filled (table-meaning p)) 1024 (λ z. let a = room-is (omega arith) in omega (arith, a, z)))))
+        (cases-eq (first 0) 0)
+      where
+        is : {b : Bool} (k : ℕ) → eqb k 1024 ≡ b → (not (eqb v 0) && eqb (table-meaning p .written s t) 0 && eqb k 1024) ≡ b
+        is k f = rw (e, eq-eqb (table-meaning p .written s t) 0 (none-written lacks)) f
 
     -- a pair that has no record is emptied by doing nothing
     pub empty-done : Lacks p s t → table-meaning p ≡ with-set (table-meaning p) s t 0

@@ -45,6 +45,11 @@ Has p s t i = (held p s t ≡ Some i) × (1 ≤ i) × (i ≤ 1024)
 abbrev pub Lacks : RecordTable → ℕ → ℕ → Type 0
 Lacks p s t = held p s t ≡ None
 
+-- what was found is the pair's record
+abbrev pub Own : RecordTable → ℕ → ℕ → Option ℕ → Type 0
+Own p s t None = Lacks p s t
+Own p s t (Some i) = Has p s t i
+
 -- a pair of contexts
 abbrev pub Pair : ℕ → ℕ → ℕ → Type 0
 Pair n s t = (1 ≤ s) × (s ≤ n) × (1 ≤ t) × (t ≤ n)

@@ -1,13 +1,14 @@
 //! The record table as a policy.
 ghost use mathlib.Core.Path.{_≡_};
-ghost use Prim.Native.Nat.{_-_, _≤_, _<_, min, max};
+ghost use mathlib.Core.Bool.{false};
+ghost use Prim.Native.Nat.{ℕ, _-_, _≤_, _<_, min, max};
 ghost use lib.ListN.{set};
 ghost use Rattle.std.specs.Options.{Cases};
 ghost use Rattle.access.specs.Contexts.{inside};
-ghost use Rattle.access.specs.Setting.{with-set};
+ghost use Rattle.access.specs.Setting.{no-room, with-set};
 ghost use Rattle.record_table.specs.Chains.{numbered, first-of, ahead, cut-heads, cut-slots, Links-low};
 ghost use Rattle.record_table.specs.Chained.{Table-chained};
-ghost use Rattle.record_table.specs.TableMeaning.{table-meaning, empty-table, Pair, held, Has, Lacks};
+ghost use Rattle.record_table.specs.TableMeaning.{table-meaning, empty-table, Pair, Has, Lacks, Own};
 use crate::records::Key;
 use crate::records::Record;
 use crate::records::Records;
@@ -103,10 +104,22 @@ impl RecordTable {
     /// The number of a pair's record.
     fn find(&self, s: u16, t: u16) -> Option<u16>
         requires { ⌜ s ≤ 256 ⌝ }
-        ensures is { λ r. ⌜ r ≡ held (now (self .entry)) s t ⌝ }
-        ensures within { λ r. ⌜ Cases r (Unit {0}) (λ i. (1 ≤ i) × (i ≤ 1024)) ⌝ }
+        ensures { λ r. ⌜ Own (now (self .entry)) s t r ⌝ }
     {
         self.records.find(self.heads[s as usize], Key::Target(t))
+    }
+
+    /// Whether a pair whose record is `found` cannot get operations for want of an unused record.
+    fn lacks_room(&self, found: Option<u16>, operations: OperationSet) -> bool
+        ensures { λ r. ⌜ ((s t : ℕ) → Pair (now (self .entry) .contexts) s t → Own (now (self .entry)) s t found → r ≡ no-room (table-meaning (now (self .entry))) s t (operations .bits)) ⌝ }
+    {
+        if operations.is_empty() {
+            return false;
+        }
+        match found {
+            Some(_) => false,
+            None => self.heads[UNUSED as usize] == 0,
+        }
     }
 
     /// Replaces the operations of record `i`, which the pair has.
@@ -171,6 +184,30 @@ impl RecordTable {
             records,
         };
     }
+
+    /// Replaces the operations of a pair, whose record is `found`.
+    fn store(&mut self, s: u16, t: u16, found: Option<u16>, operations: OperationSet)
+        requires pair { ⌜ Pair (now self .contexts) s t ⌝ }
+        requires known { ⌜ operations .bits < 4096 ⌝ }
+        requires own { ⌜ Own (now self) s t found ⌝ }
+        requires room { ⌜ no-room (table-meaning (now self)) s t (operations .bits) ≡ false ⌝ }
+        ensures { λ _. ⌜ table-meaning (now (self .exit)) ≡ with-set (table-meaning (now (self .entry))) s t (operations .bits) ⌝ }
+    {
+        match found {
+            Some(i) => {
+                if operations.is_empty() {
+                    self.remove(s, t, i);
+                } else {
+                    self.change(s, t, i, operations);
+                }
+            }
+            None => {
+                if !operations.is_empty() {
+                    self.add(s, t, operations);
+                }
+            }
+        }
+    }
 }
 
 pub impl Policy for RecordTable as RecordTablePolicy {
@@ -209,24 +246,11 @@ pub impl Policy for RecordTable as RecordTablePolicy {
         if operations.has_unknown() {
             return Err(Refusal::UnfitOperations);
         }
-        match self.find(subject, target) {
-            Some(i) => {
-                if operations.is_empty() {
-                    self.remove(subject, target, i);
-                } else {
-                    self.change(subject, target, i, operations);
-                }
-            }
-            None => {
-                if operations.is_empty() {
-                    return Ok(());
-                }
-                if self.heads[0] == 0 {
-                    return Err(Refusal::PolicyFull);
-                }
-                self.add(subject, target, operations);
-            }
+        let found = self.find(subject, target);
+        if self.lacks_room(found, operations) {
+            return Err(Refusal::PolicyFull);
         }
+        self.store(subject, target, found, operations);
         Ok(())
     }
 }

@@ -26,7 +26,7 @@ opening = 4
 abbrev pub log : ℕ
 log = 5
 
--- the clock moves the opening, the keypad logs, maintenance reads the log
+-- the clock updates the opening times, the keypad appends to the log, maintenance reads the log
 abbrev pub controller-vectors : List Vector
 controller-vectors = (clock, opening, Update) ∷ (keypad, log, Append) ∷ (maint, log, Read) ∷ []
 
