@@ -1,0 +1,10 @@
+pub mod KindLaws
+pub mod GoingWalks
+pub mod Inside
+pub mod Reached
+pub mod Tables
+pub mod Slots
+pub mod Rests
+pub mod Tracing
+pub mod Shared
+pub mod Properties

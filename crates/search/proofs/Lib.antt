@@ -1,0 +1,3 @@
+pub mod Frontier
+pub mod Distance
+pub mod Shortness

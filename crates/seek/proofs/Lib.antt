@@ -1,0 +1,5 @@
+mod Charted
+mod Lines
+mod Turns
+mod Puts
+mod Sought
