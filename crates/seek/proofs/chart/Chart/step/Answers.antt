@@ -1,11 +1,12 @@
-use mathlib.Core.Path.{_≡_, ap, _∙_}
+use mathlib.Core.Path.{_≡_, sym, ap, subst, _∙_}
 use Prim.Native.Nat.{ℕ, _+_, _/_, _%_}
+use lib.Dec.{T}
 use Rattle.std.proofs.shelf.Tests.{and-parts}
 use Rattle.verdicts.specs.Possible.{makeable}
 use Rattle.moves.specs.Grants.{standing}
 use Rattle.moves.specs.Moved.{moved}
 use Rattle.activities.specs.Nodes.{move-of}
-use Rattle.seek.proofs.Edges.{edge-shown}
+use Rattle.moves.proofs.Selected.{makeable-shown}
 use Rattle.seek.proofs.chart.Chart.step.Needs as need
 
 pub unreachable-requires : need.unreachable-requires
@@ -15,4 +16,4 @@ unreachable-requires g c κs =
     let gs = standing (c .args .self .now .grants .now) 0 in
     let same : moved (c .step-chosen .result) ≡ move-of kind (m .contexts) (c .args .before) (c .args .node) =
     c .step-chosen .ensures ∙ ap (λ (n : ℕ). kind .move (c .args .node / n) (c .args .before % n + 1) (c .args .node % n + 1)) (c .contexts-n .ensures) in
-    edge-shown m gs (moved (c .step-chosen .result)) (ap (makeable m gs) same ∙ and-parts _ _ (c .pre) .1) (c .in-None .ensures tt)
+    makeable-shown m gs (moved (c .step-chosen .result)) (subst T (sym (ap (makeable m gs) same ∙ and-parts _ _ (c .pre) .1)) tt) (c .in-None .ensures tt)
