@@ -114,7 +114,7 @@ fn print_answer(rt: &impl Print, call: &str, answer: Result<(), Refusal>) -> io:
 }
 
 /// Settings, accepted and refused.
-fn change(rt: &impl Print, controller: &mut Pile) -> io::Result<()> {
+fn change<P: Policy>(rt: &impl Print, controller: &mut P) -> io::Result<()> {
     let given = controller.set(MAINT, OPENING, only(Operation::Write));
     print_answer(rt, "giving maint write on opening", given)?;
     print_allowed(rt, controller)?;
@@ -156,9 +156,9 @@ fn print_found(
 }
 
 /// Seeks a shortest activity of a kind from the keypad to the opening, and prints it.
-fn ask<A: Activity>(
+fn ask<A: Activity, P: Policy>(
     rt: &impl Print,
-    controller: &Pile,
+    controller: &P,
     grants: &[Option<Grant>; 32],
     question: &str,
 ) -> io::Result<()> {
@@ -168,7 +168,7 @@ fn ask<A: Activity>(
     let mut steps = [NO_STEP; 5];
     let keypad = ContextSet::none().with(KEYPAD);
     let opening = ContextSet::none().with(OPENING);
-    let found = seek::<A, Pile>(
+    let found = seek::<A, P>(
         controller,
         grants,
         keypad,
@@ -180,14 +180,18 @@ fn ask<A: Activity>(
     print_found(rt, found, &steps)
 }
 
-fn ask_both(rt: &impl Print, controller: &Pile, grants: &[Option<Grant>; 32]) -> io::Result<()> {
-    ask::<Push>(
+fn ask_both<P: Policy>(
+    rt: &impl Print,
+    controller: &P,
+    grants: &[Option<Grant>; 32],
+) -> io::Result<()> {
+    ask::<Push, P>(
         rt,
         controller,
         grants,
         "can the keypad get something to the opening?",
     )?;
-    ask::<Pull>(
+    ask::<Pull, P>(
         rt,
         controller,
         grants,
