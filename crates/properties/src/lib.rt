@@ -1,0 +1,2 @@
+//! The properties that a policy is judged by.
+pub mod property;
