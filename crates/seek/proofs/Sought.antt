@@ -22,11 +22,11 @@ use Rattle.moves.specs.declared.step.Step.{Step}
 use Rattle.activities.specs.Kinds.{Kind-laws}
 use Rattle.activities.specs.Nodes.{edge, source}
 use Rattle.activities.specs.Traced.{Traced, Same-from}
-use Rattle.activities.specs.Found.{Leads, None-realised, Found}
-use Rattle.activities.proofs.Reached.{none-reached, least-reached}
+use Rattle.activities.specs.Found.{Leads, None-realised, Found, Shortest}
+use Rattle.activities.proofs.Reached.{none-reached, least-reached, path-shortest}
 use Rattle.activities.proofs.Tracing.{traced-found}
 use Rattle.seek.specs.Plan.{among, plan, line}
-use Rattle.seek.proofs.Lines.{begins, ends}
+use Rattle.seek.proofs.Lines.{inside as inside-line, joins, begins, ends}
 use Rattle.seek.proofs.Charted.{few-edges}
 use Rattle.activities.proofs.Rests.{same-rest}
 
@@ -61,3 +61,11 @@ module _ (m : Meaning) (gs : Grants) (l : Sound m) {kind : Search} {back : Bool}
             (least-reached m gs l laws (among n A) B ins (Way p) begin onward k (f .least)),
         same-rest k ss ss′ sized same,
       )
+
+  pub shortest-sought : (ps : List Place) (last : ℕ) → Found-place (plan kind m gs A B) ps last → Shortest m gs (Leads activities (among (m .contexts) A) B) (at ps last .depth)
+  shortest-sought ps last f =
+      let k = at ps last .depth in
+      path-shortest m gs l laws (among n A) B k (line ps last) (inside-line p ps last f) (joins p ps last f)
+      (subst T (sym (and-parts _ _ (begins p ps last f) .1)) tt)
+      (subst T (sym (ends p ps last f)) tt)
+      (least-reached m gs l laws (among n A) B ins (Way p) begin onward k (f .least))

@@ -1,0 +1,4 @@
+mod Verdicts
+mod Crosses
+mod Sets
+mod Sources
