@@ -1,4 +1,7 @@
 //! The vocabulary of access policies: operations, sets of operations and of contexts, refusals, and what every policy answers.
+
+#![tactic(auto)]
+
 pub mod context_set;
 pub mod operation;
 pub mod operation_set;

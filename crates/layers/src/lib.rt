@@ -1,4 +1,7 @@
 //! Layers that stand over any policy and permit less than it does.
+
+#![tactic(auto)]
+
 pub mod labels;
 pub mod level;
 pub mod owner;

@@ -1,4 +1,7 @@
 //! Two forms over lent memory: a list that grows in a slice, and bytes that are zero again when they are handed back.
+
+#![tactic(auto)]
+
 ghost use Rattle.std.specs.Prelude.{◌≡◌, ◌<◌, ◌≤◌, not, length, set, replicate, Some, None, Ok, Err, ◌==◌, slice_index, slice_index_or, slice_set};
 ghost use Rattle.lent.specs.Changes.{Pushed};
 

@@ -1,4 +1,7 @@
 //! Which moves legal runs of a policy with grants make, and how a move is shown.
+
+#![tactic(auto)]
+
 pub mod grant;
 pub mod movement;
 pub mod possible;

@@ -1,4 +1,7 @@
 //! Breadth-first search over lent memory: the end of a shortest walk, or a proof that no walk leads there.
+
+#![tactic(auto)]
+
 ghost use Rattle.std.specs.Prelude.{◌≡◌, ◌+◌, ◌<◌, true, length, replicate, slice_index};
 ghost use Rattle.search.specs.Problem.{Problem};
 ghost use Rattle.search.specs.Queue.{at, Sound, Waiting, Stepped, Lent, Ended, Kept, Answered};

@@ -1,5 +1,7 @@
 //! Seeking on small policies: the detour, the sample controller, ties between giver and taker, and short memory.
 
+#![tactic(auto)]
+
 #[cfg(test)]
 mod tests {
     use access::context_set::ContextSet;

@@ -1,4 +1,7 @@
 //! A sheet over any policy: grants, properties that are judged, and a change that is adopted or withdrawn.
+
+#![tactic(auto)]
+
 pub mod change;
 pub mod entering;
 pub mod judging;

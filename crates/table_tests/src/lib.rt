@@ -1,5 +1,7 @@
 //! What a record table does on examples: a full table, and records that are used again.
 
+#![tactic(auto)]
+
 #[cfg(test)]
 mod tests {
     use access::operation_set::OperationSet;

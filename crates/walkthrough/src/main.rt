@@ -1,5 +1,8 @@
 //! A tour of the library: lays out the sample controller, prints who may do what to whom, before and after changes, and seeks
 //! chains of steps by which one context reaches another.
+
+#![tactic(auto)]
+
 use access::context_set::ContextSet;
 use access::operation::Operation;
 use access::operation_set::OperationSet;

@@ -1,4 +1,7 @@
 //! The worked cases of the time lock's controller, as one theorem on the definitions of the verdicts.
+
+#![tactic(auto)]
+
 ghost use Rattle.worked_cases.specs.Controller.{WorkedCases};
 
 /// The worked cases hold of the definitions.
