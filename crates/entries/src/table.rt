@@ -10,7 +10,8 @@ pub struct Table<E, const N: usize> {
 
 /// An array of entries, which is the list of them in order. Read as a slice it tells its length to the proof.
 fn ordered<E: Copy, const N: usize>(entries: &[Option<E>; N]) -> &[Option<E>; N]
-    ensures { result.now ≡ in_order (listed N entries.now) 0 N }
+    ensures same { result.now ≡ entries.now }
+    ensures ordered { result.now ≡ in_order (listed N entries.now) 0 N }
 {
     let list: &[Option<E>] = entries;
     if list.len() != N {

@@ -143,9 +143,9 @@ module _ (p : RecordTable) where
       means = ap₂ (chain_meaning n) a b ∙ ap (with_written (table_meaning p)) (fun_ext (λ x. fun_ext (λ y. ∥∥₁_elim p.laid (ℕ_set _ _) (λ l. written_after n first mem l s t v at now_first new (e l) x y))));
     }
 
-    pub change-wrote : (v i : ℕ) → 1 ≤ v → v < 4096 → Has p s t i → (old : Record) → old ≡ numbered p.records.slots i → (now_slots : List Record) → now_slots ≡ slice_set p.records.slots (i - 1) (with_operations old v)
+    pub change_wrote : (v i : ℕ) → 1 ≤ v → v < 4096 → Has p s t i → (old : Record) → old ≡ numbered p.records.slots i → (now_slots : List Record) → now_slots ≡ slice_set p.records.slots (i - 1) (with_operations old v)
         → Wrote p s t v p.heads now_slots
-    change-wrote v i v1 known has old o now_slots e = rw (e, o)
+    change_wrote v i v1 known has old o now_slots e = rw (e, o)
         (wrote v heads (slice_set slots (i - 1) (with_operations (mem i) v)) (arrays_slot heads slots (i - 1) (with_operations (mem i) v) (next_low slots p.links i has.1 has.2) arrays)
         first (upd mem i (with_operations (mem i) v)) refl (numbered_set slots i (with_operations (mem i) v) has.1 (omega (arith, has.2, p.sizes.3))) (λ l. changed n first mem l s t v i at v1 known has.0))
 
@@ -161,10 +161,10 @@ module _ (p : RecordTable) where
         (numbered_set slots₁ x new x1 (omega (arith, ok.slots_size)) ∙ ap₂ (λ (g : ℕ → ℕ) (k : ℕ → Record). upd k x (entry t' v' (g b))) f m)
         e
 
-    pub add-wrote : (v : ℕ) → 1 ≤ v → v < 4096 → Lacks p s t → 1 ≤ first_of p.heads 0 → (old : Record) → old ≡ numbered p.records.slots (first_of p.heads 0) → (now_heads : List ℕ) (now_slots : List Record)
+    pub add_wrote : (v : ℕ) → 1 ≤ v → v < 4096 → Lacks p s t → 1 ≤ first_of p.heads 0 → (old : Record) → old ≡ numbered p.records.slots (first_of p.heads 0) → (now_heads : List ℕ) (now_slots : List Record)
         → now_heads ≡ slice_set (slice_set p.heads 0 old.next) s (first_of p.heads 0) → now_slots ≡ slice_set p.records.slots (first_of p.heads 0 - 1) (entry t v (first_of (slice_set p.heads 0 old.next) s))
         → Wrote p s t v now_heads now_slots
-    add-wrote v v1 known lacks room old o now_heads now_slots a b = rw (a, b) (rw o
+    add_wrote v v1 known lacks room old o now_heads now_slots a b = rw (a, b) (rw o
         (pushed v s (first 0) t v (omega (arith, at.1, p.sizes.1)) room (p.firsts 0)
         (slice_set heads 0 next) slots (arrays_first heads slots 0 next (next_low slots p.links (first 0) room (p.firsts 0)) arrays)
         (upd first 0 next) mem (first_set heads 0 next (omega (arith, p.sizes.2))) refl (λ l. added n first mem l s t v at v1 known room (p.firsts 0) lacks)))
@@ -172,11 +172,11 @@ module _ (p : RecordTable) where
         next : ℕ
         next = (mem (first 0)).next
 
-    pub remove-wrote : (i : ℕ) → Has p s t i → Within (ahead (numbered p.records.slots) i (first_of p.heads s)) → (heads₁ : List ℕ) (slots₁ : List Record)
+    pub remove_wrote : (i : ℕ) → Has p s t i → Within (ahead (numbered p.records.slots) i (first_of p.heads s)) → (heads₁ : List ℕ) (slots₁ : List Record)
         → heads₁ ≡ cut_heads (ahead (numbered p.records.slots) i (first_of p.heads s)) p.heads s (numbered p.records.slots i).next
         → slots₁ ≡ cut_slots (ahead (numbered p.records.slots) i (first_of p.heads s)) p.records.slots (numbered p.records.slots i).next
         → (now_heads : List ℕ) (now_slots : List Record) → now_heads ≡ slice_set heads₁ 0 i → now_slots ≡ slice_set slots₁ (i - 1) (entry 0 0 (first_of heads₁ 0)) → Wrote p s t 0 now_heads now_slots
-    remove-wrote i has within heads₁ slots₁ h k now_heads now_slots a b = rw (a, b) (rw (h, k)
+    remove_wrote i has within heads₁ slots₁ h k now_heads now_slots a b = rw (a, b) (rw (h, k)
         (pushed 0 0 i 0 0 (omega arith) has.1 has.2
         (cut_heads o heads s next) (cut_slots o slots next) (cut_arrays o s next (next_low slots p.links i has.1 has.2))
         (cut_first o first s next) (cut_mem o mem (mem i)) (cut_firsts o s next (omega (arith, at.1, p.sizes.1))) (cut_mems o (mem i) within)

@@ -47,11 +47,11 @@ fn visit<G: Graph>(
     places: &mut List<'_, Place>,
     place: Place,
 ) -> bool
-    requires ready { Waiting (problem graph.now) ticks.old places.old place.depth }
-    requires sound { Sound (problem graph.now) places.old.items.now places.old.len place }
+    requires ready { Waiting (G.problem graph.now) ticks.old places.old place.depth }
+    requires sound { Sound (G.problem graph.now) places.old.items.now places.old.len place }
     requires fresh { slice_index ticks.old.bytes.now place.node ≡ 0 }
     ensures lent { Lent ticks.old ticks.new places.old places.new }
-    ensures stepped { Stepped (problem graph.now) ticks.old ticks.new places.old places.new place.depth (λ v. v ≡ place.node) result }
+    ensures stepped { Stepped (G.problem graph.now) ticks.old ticks.new places.old places.new place.depth (λ v. v ≡ place.node) result }
 {
     ticks.tick(place.node as usize);
     let _ = places.push(place);
@@ -60,9 +60,9 @@ fn visit<G: Graph>(
 
 /// Pushes the sources, until one is a target.
 fn start<G: Graph>(graph: &G, ticks: &mut Cleared<'_>, places: &mut List<'_, Place>) -> bool
-    requires { Waiting (problem graph.now) ticks.old places.old 0 }
+    requires { Waiting (G.problem graph.now) ticks.old places.old 0 }
     ensures lent { Lent ticks.old ticks.new places.old places.new }
-    ensures stepped { Stepped (problem graph.now) ticks.old ticks.new places.old places.new 0 (λ v. (problem graph.now).source v ≡ true) result }
+    ensures stepped { Stepped (G.problem graph.now) ticks.old ticks.new places.old places.new 0 (λ v. (G.problem graph.now).source v ≡ true) result }
 {
     for node in 0..graph.nodes() {
         if !ticks.is_ticked(node as usize)
@@ -93,11 +93,11 @@ fn scan<G: Graph>(
     head: u16,
     from: Place,
 ) -> bool
-    requires ready { Waiting (problem graph.now) ticks.old places.old (from.depth + 1) }
+    requires ready { Waiting (G.problem graph.now) ticks.old places.old (from.depth + 1) }
     requires below { head < places.old.len }
     requires here { at places.old.items.now head ≡ from }
     ensures lent { Lent ticks.old ticks.new places.old places.new }
-    ensures stepped { Stepped (problem graph.now) ticks.old ticks.new places.old places.new (from.depth + 1) (λ v. (problem graph.now).edge from.node v ≡ true) result }
+    ensures stepped { Stepped (G.problem graph.now) ticks.old ticks.new places.old places.new (from.depth + 1) (λ v. (G.problem graph.now).edge from.node v ≡ true) result }
 {
     let depth = from.depth + 1;
     for node in 0..graph.nodes() {
@@ -122,11 +122,11 @@ fn scan<G: Graph>(
 
 /// Pushes the sources, then scans the places one after another, until a target is met or none is left.
 fn explore<G: Graph>(graph: &G, ticks: &mut Cleared<'_>, places: &mut List<'_, Place>) -> bool
-    requires { Waiting (problem graph.now) ticks.old places.old 0 }
+    requires { Waiting (G.problem graph.now) ticks.old places.old 0 }
     ensures lent { Lent ticks.old ticks.new places.old places.new }
-    ensures ended { Ended (problem graph.now) places.new result }
+    ensures ended { Ended (G.problem graph.now) places.new result }
     ensures sized { length ticks.new.bytes.now ≡ length ticks.old.bytes.now }
-    ensures kept { Kept (problem graph.now) places.old.items.now places.new.items.now }
+    ensures kept { Kept (G.problem graph.now) places.old.items.now places.new.items.now }
 {
     if start(graph, ticks, places) {
         return true;
@@ -149,9 +149,9 @@ pub fn search<G: Graph>(
     ticks: &mut [u8],
     places: &mut [Place],
 ) -> Result<Option<usize>, TooShort>
-    ensures answer { Answered (problem graph.now) ticks.old places.old places.new result }
+    ensures answer { Answered (G.problem graph.now) ticks.old places.old places.new result }
     ensures ticks { ticks.new ≡ replicate (length ticks.old) 0 }
-    ensures kept { Kept (problem graph.now) places.old places.new }
+    ensures kept { Kept (G.problem graph.now) places.old places.new }
 {
     let nodes = graph.nodes() as usize;
     let room = places.len();

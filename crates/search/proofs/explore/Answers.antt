@@ -18,8 +18,8 @@ returns-then-start g c =
 pub loop-from-init : goal.loop-from-init
 loop-from-init g c = (spread_none _ c.if-start.ensures.stepped, (refl, refl), refl, λ i l. refl)
 
-pub overflow-cast-head : goal.overflow-cast-head
-overflow-cast-head g c = let u = used_le _ _ _ _ c.loop-from.invariant.0.queue in search rules
+pub overflow_cast-head : goal.overflow_cast-head
+overflow_cast-head g c = let u = used_le _ _ _ _ c.loop-from.invariant.0.queue in search rules
 
 pub scan-requires : goal.scan-requires
 scan-requires g c = search (rules, get_or_default)
@@ -38,8 +38,8 @@ returns-then-scan g c =
       kept = λ i l. kept _ s.grown i l ∙ c.loop-from.invariant.3 i l ∙ kept _ c.if-start.ensures.stepped.grown i l;
     }
 
-pub overflow-add-head : goal.overflow-add-head
-overflow-add-head g c = let u = used_le _ _ _ _ c.loop-from.invariant.0.queue in search rules
+pub overflow_add-head : goal.overflow_add-head
+overflow_add-head g c = let u = used_le _ _ _ _ c.loop-from.invariant.0.queue in search rules
 
 pub loop-from-smaller : goal.loop-from-smaller
 loop-from-smaller g c =
@@ -59,7 +59,7 @@ pub returns : goal.returns
 returns g c =
     record {
       lent = lent_then c.if-start.ensures.lent c.loop-from.invariant.1;
-      ended = nowhere _ _ _ _ _ c.loop-from.invariant.0 c.in-default.ensures;
+      ended = nowhere _ _ _ _ _ c.loop-from.invariant.0 c.in_default.ensures;
       sized = c.loop-from.invariant.2 ∙ c.if-start.ensures.stepped.grown.sized;
       kept = λ i l. c.loop-from.invariant.3 i l ∙ kept _ c.if-start.ensures.stepped.grown i l;
     }

@@ -5,7 +5,7 @@ use Rattle.search.specs.Queue.{at, Sound, Ready}
 use Rattle.search.specs.declared.Place.{Place}
 use Rattle.search.proofs.Frontier.{went_none, went_visit, went_skip, went_ticked, went_all, went_struck, turn_at, lent_then, ready, used_le, after_from, told, untold}
 use Rattle.search.proofs.scan.Goals as goal
-use Rattle.search.proofs.scan.Goals.{else-not-is-ticked-via-then-not-is-ticked+then-edge+else-visit, else-not-is-ticked-via-then-not-is-ticked+else-edge, else-not-is-ticked-via-else-not-is-ticked}
+use Rattle.search.proofs.scan.Goals.{else-not-is_ticked-via-then-not-is_ticked+then-edge+else-visit, else-not-is_ticked-via-then-not-is_ticked+else-edge, else-not-is_ticked-via-else-not-is_ticked}
 
 pub loop-node-init : goal.loop-node-init
 loop-node-init g c = (went_none _ _ _ _ _ (λ v. (g.G.Graph.problem c.args.graph.now).edge c.args.from.node v ≡ true) c.requires.ready, (refl, refl))
@@ -15,8 +15,8 @@ sound : (p : Problem) {ts : List ℕ} {ps : List Place} {used d head : ℕ} {fro
     Sound p ps head from
 sound p {ps = ps} {head = head} r l e = subst (λ x. Sound p ps head x) e (r.queue.sound head l)
 
-pub overflow-add-depth : goal.overflow-add-depth
-overflow-add-depth g c =
+pub overflow_add-depth : goal.overflow_add-depth
+overflow_add-depth g c =
     let s = sound _ c.requires.ready c.requires.below c.requires.here in
     let u = used_le _ _ _ _ c.requires.ready.queue in
     search rules
@@ -36,7 +36,7 @@ visit-requires g c =
             earlier = λ h. omega (arith, c.loop-node.invariant.0.grown.further, c.requires.below);
             after = λ h. after_from _ _ (sym (c.loop-node.invariant.0.grown.same c.args.head c.requires.below ∙ c.requires.here)) (sym c.if-edge.ensures) refl;
           };
-      fresh = untold _ c.if-not-is-ticked.ensures;
+      fresh = untold _ c.if-not-is_ticked.ensures;
     }
 
 pub returns-then-visit : goal.returns-then-visit
@@ -48,18 +48,18 @@ returns-then-visit g c =
 
 pub loop-node-preserved : goal.loop-node-preserved
 loop-node-preserved g c =
-    elim c.else-not-is-ticked.branch [
-      | else-not-is-ticked-via-then-not-is-ticked+then-edge+else-visit w ↦
+    elim c.else-not-is_ticked.branch [
+      | else-not-is_ticked-via-then-not-is_ticked+then-edge+else-visit w ↦
           turn_at _ c.args.ticks.now c.args.places.now _ _ w.ticks-is w.places-is (
             went_visit _ _ _ (λ v. (g.G.Graph.problem c.args.graph.now).edge c.args.from.node v ≡ true) c.loop-node.invariant.0 w.if-visit.ensures.stepped,
             lent_then c.loop-node.invariant.1 w.if-visit.ensures.lent,
           )
-      | else-not-is-ticked-via-then-not-is-ticked+else-edge w ↦
+      | else-not-is_ticked-via-then-not-is_ticked+else-edge w ↦
           turn_at _ c.args.ticks.now c.args.places.now _ _ w.ticks-is w.places-is
           (went_skip _ _ _ (λ v. (g.G.Graph.problem c.args.graph.now).edge c.args.from.node v ≡ true) c.loop-node.invariant.0 (both_ways _ (sym w.if-edge.ensures)), c.loop-node.invariant.1)
-      | else-not-is-ticked-via-else-not-is-ticked w ↦
+      | else-not-is_ticked-via-else-not-is_ticked w ↦
           turn_at _ c.args.ticks.now c.args.places.now _ _ w.ticks-is w.places-is
-          (went_ticked _ _ _ (λ v. (g.G.Graph.problem c.args.graph.now).edge c.args.from.node v ≡ true) c.loop-node.invariant.0 (omega arith) (told _ w.if-not-is-ticked.ensures), c.loop-node.invariant.1)
+          (went_ticked _ _ _ (λ v. (g.G.Graph.problem c.args.graph.now).edge c.args.from.node v ≡ true) c.loop-node.invariant.0 (omega arith) (told _ w.if-not-is_ticked.ensures), c.loop-node.invariant.1)
     ]
 
 pub returns : goal.returns

@@ -11,9 +11,9 @@ returns-in-None g c =
       ticks = search rules;
     }
 
-pub returns-in-Some-show-from : goal.returns-in-Some-show-from
-returns-in-Some-show-from g c =
+pub returns-in-Some-show_from : goal.returns-in-Some-show_from
+returns-in-Some-show_from g c =
     record {
-      told = λ a b. flow_some (g.P.Policy.meaning c.args.policy.now) (standing c.args.grants.now 0) (member c.args.from) (member c.args.to) a b c.in-Some.near c.in-Some.ensures c.args.steps.now c.show-from.new.steps c.in-Some-show-from.steps c.in-Some-show-from.ensures.shown;
-      ticks = c.in-Some-show-from.ensures.ticks ∙ ap (λ (n : ℕ). replicate n 0) c.nearest.auto.ticks;
+      told = λ a b. flow_some (g.P.Policy.meaning c.args.policy.now) (standing c.args.grants.now 0) (member c.args.from) (member c.args.to) a b c.in-Some.near c.in-Some.ensures c.args.steps.now c.show_from.new.steps c.in-Some-show_from.steps c.in-Some-show_from.ensures.shown;
+      ticks = c.in-Some-show_from.ensures.ticks ∙ ap (λ (n : ℕ). replicate n 0) c.nearest.auto.ticks;
     }

@@ -8,4 +8,4 @@ pub returns : goal.returns
 returns g c =
     let m = g.P.Policy.meaning c.args.policy.now in
     made_in read_like (λ e. e) _ (bit_and (m.written c.args.a c.args.b) (m.permitted c.args.a c.args.b)) _ c.read_like.ensures
-    (ap not (c.is-empty.ensures ∙ ap (λ x. eqb x 0) (c.and.ensures ∙ ap (λ x. bit_and c.read_like.result.bits x) (c.and-allowed.ensures ∙ ap₂ bit_and c.written.ensures c.permitted.ensures))))
+    (ap not (c.is_empty.ensures ∙ ap (λ x. eqb x 0) (c.and.ensures ∙ ap (λ x. bit_and c.read_like.result.bits x) (c.and-allowed.ensures ∙ ap₂ bit_and c.written.ensures c.permitted.ensures))))

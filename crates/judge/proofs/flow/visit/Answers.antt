@@ -14,4 +14,4 @@ returns-then-has g c =
     let m = g.P.Policy.meaning c.args.policy.now in
     let gs = standing c.args.grants.now 0 in
     subst (Best m gs (member c.args.from) (member c.args.to) (c.args.before + 1)) (sym c.nearer.ensures)
-    (best_nearer m gs (member c.args.from) (member c.args.to) c.args.before c.args.best c.measure-from.result (subst T c.if-has.ensures tt) c.requires.so c.measure-from.ensures)
+    (best_nearer m gs (member c.args.from) (member c.args.to) c.args.before c.args.best c.measure_from.result (subst T c.if-has.ensures tt) c.requires.so c.measure_from.ensures)

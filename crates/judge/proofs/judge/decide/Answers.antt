@@ -6,15 +6,15 @@ use Rattle.judge.proofs.judge.decide.Goals as goal
 pub returns-in-Integrity : goal.returns-in-Integrity
 returns-in-Integrity g c =
     record {
-      judged = by_push (g.P.Policy.meaning c.args.policy.now) (standing c.args.grants.now 0) c.args.steps.now c.by-search.new.steps (member c.args.property.first) (member c.args.property.second) c.args.property.template c.by-search.result c.in-Integrity.is c.by-search.ensures.told;
-      ticks = c.by-search.ensures.ticks;
+      judged = by_push (g.P.Policy.meaning c.args.policy.now) (standing c.args.grants.now 0) c.args.steps.now c.by_search.new.steps (member c.args.property.first) (member c.args.property.second) c.args.property.template c.by_search.result c.in-Integrity.is c.by_search.ensures.told;
+      ticks = c.by_search.ensures.ticks;
     }
 
 pub returns-in-Confidentiality : goal.returns-in-Confidentiality
 returns-in-Confidentiality g c =
     record {
-      judged = by_pull (g.P.Policy.meaning c.args.policy.now) (standing c.args.grants.now 0) c.args.steps.now c.by-search-in-Confidentiality.new.steps (member c.args.property.first) (member c.args.property.second) c.args.property.template c.by-search-in-Confidentiality.result c.in-Confidentiality.is c.by-search-in-Confidentiality.ensures.told;
-      ticks = c.by-search-in-Confidentiality.ensures.ticks;
+      judged = by_pull (g.P.Policy.meaning c.args.policy.now) (standing c.args.grants.now 0) c.args.steps.now c.by_search-in-Confidentiality.new.steps (member c.args.property.first) (member c.args.property.second) c.args.property.template c.by_search-in-Confidentiality.result c.in-Confidentiality.is c.by_search-in-Confidentiality.ensures.told;
+      ticks = c.by_search-in-Confidentiality.ensures.ticks;
     }
 
 pub returns-in-Consistency : goal.returns-in-Consistency

@@ -2,9 +2,9 @@ use Rattle.std.proofs.Common.{◌+◌, ◌-◌, ◌*◌, ◌/◌, ◌%◌, arith
 use Rattle.access.proofs.ContextLaws.{member_yes, member_no}
 use Rattle.access.proofs.context_set.ContextSet.any_above.Goals as goal
 
-pub returns-then-any-from : goal.returns-then-any-from
-returns-then-any-from c =
-    let e = c.if-any-from.ensures in
+pub returns-then-any_from : goal.returns-then-any_from
+returns-then-any_from c =
+    let e = c.if-any_from.ensures in
     (64 * c.loop-i.i + e.0 + 1, omega (arith, e.1), member_yes c.args.self c.loop-i.i e.0 (omega arith) e.2 e.3)
 
 pub returns : goal.returns

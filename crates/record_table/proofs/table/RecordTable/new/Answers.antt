@@ -5,13 +5,13 @@ use Rattle.record_table.specs.TableMeaning.{empty_table}
 use Rattle.record_table.proofs.Fresh.{fresh_arrays, fresh_laid, fresh_written}
 use Rattle.record_table.proofs.table.RecordTable.new.Goals as goal
 
-pub invariant-of-result : goal.invariant-of-result
-invariant-of-result c =
+pub invariant_of-result : goal.invariant_of-result
+invariant_of-result c =
     let e = c.linked-records.ensures in
     let n = c.min-contexts.result in
     let slots = c.linked-records.result.slots in
     let a = fresh_arrays n slots e.all e.links e.last in
-    ((search rules, search rules, a.heads_size, a.slots_size), (a.firsts, (a.links, (∣ fresh_laid n slots e.all e.links e.last ∣₁, tt))))
+    record { sizes = (search rules, search rules, a.heads_size, a.slots_size); firsts = a.firsts; links = a.links; laid = ∣ fresh_laid n slots e.all e.links e.last ∣₁ }
 
 pub returns : goal.returns
 returns c =

@@ -7,23 +7,23 @@ use Rattle.record_table.specs.TableLaws.{room_for_new, empty_done}
 use Rattle.record_table.proofs.table.RecordTable.store.Goals as goal
 
 pub remove-requires : goal.remove-requires
-remove-requires c = record { pair = c.requires.pair; has = subst (Own c.args.self.now c.args.s c.args.t) c.in-Some.is c.requires.own_val }
+remove-requires c = record { pair = c.requires.pair; has = subst (Own c.args.self.now c.args.s c.args.t) c.in-Some.is c.requires.own }
 
 pub change-requires : goal.change-requires
 change-requires c =
     record {
       pair = c.requires.pair;
-      some = let n = eqb-false c.args.operations.bits 0 (sym c.if-is-empty.ensures) in omega (arith, n);
+      some = let n = eqb-false c.args.operations.bits 0 (sym c.if-is_empty.ensures) in omega (arith, n);
       known = c.requires.known;
-      has = subst (Own c.args.self.now c.args.s c.args.t) c.in-Some.is c.requires.own_val;
+      has = subst (Own c.args.self.now c.args.s c.args.t) c.in-Some.is c.requires.own;
     }
 
 pub add-requires : goal.add-requires
 add-requires c =
     let p = c.args.self.now in
     let v = c.args.operations.bits in
-    let lacks = subst (Own p c.args.s c.args.t) c.in-None.is c.requires.own_val in
-    let filled = sym c.if-not-is-empty.ensures in
+    let lacks = subst (Own p c.args.s c.args.t) c.in-None.is c.requires.own in
+    let filled = sym c.if-not-is_empty.ensures in
     record {
       pair = c.requires.pair;
       some = let n = eqb-false v 0 filled in omega (arith, n);
@@ -32,8 +32,8 @@ add-requires c =
       room = let n = eqb-false (first_of p.heads 0) 0 (room_for_new p c.args.s c.args.t c.requires.pair v filled lacks ∙ c.requires.room) in omega (arith, n);
     }
 
-pub returns-else-not-is-empty : goal.returns-else-not-is-empty
-returns-else-not-is-empty c =
+pub returns-else-not-is_empty : goal.returns-else-not-is_empty
+returns-else-not-is_empty c =
     let p = c.args.self.now in
-    let lacks = subst (Own p c.args.s c.args.t) c.in-None.is c.requires.own_val in
-    empty_done p c.args.s c.args.t c.requires.pair lacks ∙ ap (with_set (table_meaning p) c.args.s c.args.t) (sym (eqb-true c.args.operations.bits 0 (sym c.if-not-is-empty.ensures)))
+    let lacks = subst (Own p c.args.s c.args.t) c.in-None.is c.requires.own in
+    empty_done p c.args.s c.args.t c.requires.pair lacks ∙ ap (with_set (table_meaning p) c.args.s c.args.t) (sym (eqb-true c.args.operations.bits 0 (sym c.if-not-is_empty.ensures)))

@@ -1,8 +1,8 @@
 use Rattle.std.proofs.Common.{◌*◌, ◌≤◌, mul-le-mul_right, arith}
 use Rattle.seek.proofs.chart.ChartGraph.nodes.Goals as goal
 
-pub overflow-mul-result : goal.overflow-mul-result
-overflow-mul-result g c =
+pub overflow_mul-result : goal.overflow_mul-result
+overflow_mul-result g c =
     let two : c.phase_count.result ≤ 2 = omega (arith, c.phase_count.ensures, g.met.A.Activity.lawful.few) in
     let most : c.phase_count.result * c.contexts.result ≤ 2 * c.contexts.result = mul-le-mul_right c.contexts.result two in
     omega (arith, most, c.contexts.ensures, (g.met.P.Policy.sound c.args.self.now.policy.now).few_contexts)
