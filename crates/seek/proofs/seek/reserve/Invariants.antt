@@ -5,6 +5,6 @@ use Rattle.seek.proofs.seek.reserve.Given as goal
 abbrev pub invariant-loop-i : goal.invariant-loop-i
 invariant-loop-i l =
     (l.steps.items.ghost_name ≡ l.initial.steps.items.ghost_name)
-    × (l.steps.len ≡ l.initial.steps.len + l.-i)
+    × (l.steps.len ≡ l.initial.steps.len + l._i)
     × (length l.steps.items.now ≡ length l.initial.steps.items.now)
     × SameFrom l.steps.len l.initial.steps.items.now l.steps.items.now
