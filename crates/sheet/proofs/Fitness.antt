@@ -1,34 +1,27 @@
 -- Properties that are entered and struck stay fit.
-use Rattle.std.proofs.Common.{◌≡◌, ℕ, Bool, true, false, cond, not, ◌||◌, eqb, [], ◌∷◌, is_some, Some, None, Ok, Option, sym, refl, ap, ◌∙◌, subst, arith}
+use Rattle.std.proofs.Common.{◌≡◌, ℕ, Bool, true, false, cond, not, ◌||◌, eqb, List, [], ◌∷◌, is_some, Some, None, Option, refl, sym, subst, arith}
 use Rattle.access.specs.Policy.{Meaning}
-use Rattle.access.specs.Refusals.{answer, first_of, when_accepted}
+use Rattle.access.specs.Refusals.{first_of, when_accepted}
 use Rattle.access.specs.declared.refusal.Refusal.{Refusal}
 use Rattle.access.specs.declared.refusal.Refusal.TheVariants.{NumberOutside, StandsAlready, UnfitSet, SharedContext}
 use Rattle.access.specs.Contexts.{meet}
-use Rattle.entries.specs.Entries.{Entries, in_range, put, put_within}
-use Rattle.entries.specs.Held.{held}
-use Rattle.entries.specs.declared.table.Table.{Table}
+use Rattle.entries.specs.Entries.{Entries, in_range, put}
 use Rattle.properties.specs.declared.property.Property.{Property}
-use Rattle.sheet.specs.Book.{Book, unfit, unfit_second, fits, refusal, accepted, with_properties}
-use Rattle.sheet.specs.Stands.{shown, Stands, Serves}
+use Rattle.sheet.specs.Book.{Opened, Book, unfit, unfit_second, refusal, accepted, fed, fed_all, put_back}
+use Rattle.sheet.specs.Judging.{fits, Fit}
+use Rattle.sheet.specs.Fitness.{FitnessStays}
 use Rattle.sheet.specs.declared.request.Request.{Request}
-use Rattle.sheet.specs.declared.request.Request.TheVariants.{EnterProperty, StrikeProperty}
-use Rattle.sheet.specs.declared.sheet.Sheet.{Sheet}
-use Rattle.sheet.proofs.MakingLaws.{for_shown}
+use Rattle.sheet.specs.declared.request.Request.TheVariants.{Set, EnterGrant, StrikeGrant, EnterProperty, StrikeProperty, Open, Adopt, Withdraw, AskSettings, AskContexts, AskCapacity, AskWritten, AskPermitted}
 
--- a property that is entered has a number in range and is fit
-pub entered_parts : (b : Book) (k : ℕ) (p : Property) → refusal b (EnterProperty k p) ≡ None → (in_range 64 k ≡ true) × (fits b.policy.contexts (Some p) ≡ true)
-entered_parts b k p e = go (in_range 64 k) (is_some (b.properties k)) (unfit b.policy.contexts p.first || unfit_second b.policy.contexts p.template p.second) (meet p.first p.second) e
+-- a property that is entered is fit
+entered_fit : (b : Book) (k : ℕ) (p : Property) → refusal b (EnterProperty k p) ≡ None → fits b.policy.contexts (Some p) ≡ true
+entered_fit b k p e = go (in_range 64 k) (is_some (b.properties k)) (unfit b.policy.contexts p.first || unfit_second b.policy.contexts p.template p.second) (meet p.first p.second) e
   where
-    go : (r s u m : Bool) → first_of ((not r, NumberOutside) ∷ (s, StandsAlready) ∷ (u, UnfitSet) ∷ (m, SharedContext) ∷ []) ≡ None → (r ≡ true) × (not u ≡ true)
-    go true false false m e = (refl, refl)
+    go : (r s u m : Bool) → first_of ((not r, NumberOutside) ∷ (s, StandsAlready) ∷ (u, UnfitSet) ∷ (m, SharedContext) ∷ []) ≡ None → not u ≡ true
+    go true false false m e = refl
     go false s u m e = let z : ◌≡◌ {A = ℕ} 0 1 = cc in absurd (omega arith)
     go true true u m e = let z : ◌≡◌ {A = ℕ} 0 1 = cc in absurd (omega arith)
     go true false true m e = let z : ◌≡◌ {A = ℕ} 0 1 = cc in absurd (omega arith)
-
--- one that stands can be struck
-pub struck_free : (b : Book) (k : ℕ) → in_range 64 k ≡ true → is_some (b.properties k) ≡ true → refusal b (StrikeProperty k) ≡ None
-struck_free b k r s = rw (r, s) refl
 
 -- an entry replaced by a fit one
 fit_put : (n : ℕ) (f : Entries Property) (k : ℕ) (e : Option Property) → ((j : ℕ) → fits n (f j) ≡ true) → fits n e ≡ true → (j : ℕ) → fits n (put f k e j) ≡ true
@@ -38,25 +31,34 @@ fit_put n f k e all one j = go (eqb j k)
     go true = one
     go false = all j
 
--- a call that is accepted and replaces one property by a fit one, or by none
-pub properties_put : {P : Type 0} (meaning : P → Meaning) (old : Sheet P) (t : Table Property 64) (q : Request) (k : ℕ) (e : Option Property)
-    → held t ≡ put_within 64 (held old.properties) k e → in_range 64 k ≡ true
-    → refusal (shown meaning old) q ≡ None
-    → accepted (shown meaning old) q ≡ with_properties (shown meaning old) (put (held old.properties) k e)
-    → fits (meaning old.policy).contexts e ≡ true
-    → Serves meaning answer q old (Ok tt) (record { policy = old.policy; settings = old.settings; grants = old.grants; properties = t; changing = old.changing; notes = old.notes })
-properties_put {P} meaning old t q k e put_in ranged free feeds one = for_shown meaning answer q old _ (Ok tt) (λ st.
-    let is : held t ≡ put (held old.properties) k e = put_in ∙ ap (λ (b : Bool). cond b (put (held old.properties) k e) (held old.properties)) ranged in
-    let b : Book = shown meaning old in
-    let new : Sheet P = record { policy = old.policy; settings = old.settings; grants = old.grants; properties = t; changing = old.changing; notes = old.notes } in
-    let Q : Option Refusal → Type 0 = λ o. (Ok tt ≡ answer o) × Stands meaning (when_accepted o (accepted b q) b) new in
-    let R : Book → Type 0 = λ x. Stands meaning x new in
-    let F : Entries Property → Type 0 = λ f. (j : ℕ) → fits (meaning old.policy).contexts (f j) ≡ true in
-    subst Q (sym free) (
-      refl,
-      subst R (sym feeds) (record {
-        shows = ap (with_properties b) (sym is);
-        undoable = st.undoable;
-        fit = subst F (sym is) (fit_put (meaning old.policy).contexts (held old.properties) k e st.fit one);
-      }),
-    ))
+-- a call leaves the properties fit where it does so accepted
+either : (o : Option Refusal) (new old : Book) → (o ≡ None → Fit new) → Fit old → Fit (when_accepted o new old)
+either None new old a b = a refl
+either (Some why) new old a b = b
+
+step : (b : Book) (q : Request) → Fit b → Fit (fed b q)
+step b (Set s t ops) f = either (refusal b (Set s t ops)) (accepted b (Set s t ops)) b (λ _. f) f
+step b (EnterGrant n g) f = either (refusal b (EnterGrant n g)) (accepted b (EnterGrant n g)) b (λ _. f) f
+step b (StrikeGrant n) f = either (refusal b (StrikeGrant n)) (accepted b (StrikeGrant n)) b (λ _. f) f
+step b (EnterProperty n p) f =
+    either (refusal b (EnterProperty n p)) (accepted b (EnterProperty n p)) b (λ e. fit_put b.policy.contexts b.properties n (Some p) f (entered_fit b n p e)) f
+step b (StrikeProperty n) f = either (refusal b (StrikeProperty n)) (accepted b (StrikeProperty n)) b (λ _. fit_put b.policy.contexts b.properties n None f refl) f
+step b Open f = either (refusal b Open) (accepted b Open) b (λ _. f) f
+step b Adopt f = either (refusal b Adopt) (accepted b Adopt) b (λ _. f) f
+step b Withdraw f = either (refusal b Withdraw) (accepted b Withdraw) b (λ _. subst (λ (n : ℕ). (k : ℕ) → fits n (b.properties k) ≡ true) (same b.change) f) f
+  where
+    same : (c : Option Opened) → b.policy.contexts ≡ (put_back c b.policy).contexts
+    same None = refl
+    same (Some o) = refl
+step b AskSettings f = f
+step b AskContexts f = f
+step b AskCapacity f = f
+step b (AskWritten s t) f = f
+step b (AskPermitted s t) f = f
+
+steps : (b : Book) (qs : List Request) → Fit b → Fit (fed_all b qs)
+steps b [] f = f
+steps b (q ∷ qs) f = steps (fed b q) qs (step b q f)
+
+pub fitness_stays : FitnessStays
+fitness_stays = (λ m k. refl, steps)

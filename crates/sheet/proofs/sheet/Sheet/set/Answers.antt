@@ -32,6 +32,6 @@ returns-after-self-2 g c =
     accepted_set meaning old c.args.subject c.args.target c.args.operations p notes k (g.met.P.Policy.sound old.policy) free c.in-Ok.ensures.told c.in-Ok.ensures.done more counted in
     let Q : Sheet g.row.P.Denot → Type 0 = λ x. (k : ℕ) → k ≡ min (x.settings + 1) 4294967295 → Serves meaning answer (Set c.args.subject c.args.target c.args.operations) old (Ok tt) (record { policy = x.policy; settings = k; grants = x.grants; properties = x.properties; changing = x.changing; notes = x.notes }) in
     elim c.if-self-2.branch [
-      | then-self-2 w ↦ subst Q (sym w.self_is) (λ k counted. serves w.add.new.self (λ y. w.add.ensures (leb-false 128 _ (free y)) ∙ ap (λ (v : ℕ). record { subject = c.args.subject; target = c.args.target; before = record { bits = v } } ∷ noted old.notes) c.written-before.ensures) k counted) c.saturating_add-self.result c.saturating_add-self.ensures
-      | else-self-2 w ↦ subst Q (sym w.self_is) (λ k counted. serves old.notes (λ y. differ (sym y ∙ w.if-self-2.false)) k counted) c.saturating_add-self.result c.saturating_add-self.ensures
+      | then-self-2 w ↦ subst Q (sym w.self-is) (λ k counted. serves w.add.new.self (λ y. w.add.ensures (leb-false 128 _ (free y)) ∙ ap (λ (v : ℕ). record { subject = c.args.subject; target = c.args.target; before = record { bits = v } } ∷ noted old.notes) c.written-before.ensures) k counted) c.saturating_add-self.result c.saturating_add-self.ensures
+      | else-self-2 w ↦ subst Q (sym w.self-is) (λ k counted. serves old.notes (λ y. differ (sym y ∙ w.if-self-2.false)) k counted) c.saturating_add-self.result c.saturating_add-self.ensures
     ]
