@@ -1,5 +1,5 @@
 //! Sets of operations.
-ghost use Rattle.std.specs.Prelude.{◌≡◌, MatchOption, ◌==◌, bit_and, bit_or};
+ghost use Rattle.std.specs.Prelude.{◌≡◌, MatchOption, nat_eq, bit_and, bit_or};
 ghost use Rattle.access.specs.Operations.{number_of, has, one, without, unknown, set_of, read_op, write_op, execute_op, become_op, any_op, Lowest, LacksAll};
 
 use crate::operation::Operation;
@@ -92,7 +92,7 @@ impl OperationSet {
     }
 
     pub fn is_empty(self) -> bool
-        ensures { result ≡ (self.bits == 0) }
+        ensures { result ≡ nat_eq self.bits 0 }
     {
         self.bits == 0
     }

@@ -1,7 +1,7 @@
 //! A layer of owners over any policy.
 ghost use Rattle.std.specs.Prelude.{◌≡◌};
 ghost use Rattle.layers.specs.Labels.{label_of};
-ghost use Rattle.layers.specs.Layers.{with_owners, owner_rule};
+ghost use Rattle.layers.specs.Layers.{owner_rule, with_owners};
 ghost use Rattle.layers.specs.Layered.{layer_sound, owner_less};
 
 use crate::labels::Labels;
