@@ -1,5 +1,5 @@
 -- The graph of an activity is one of contexts at phases, so a shortest walk has fewer edges than there are contexts.
-use Rattle.std.proofs.Common.{◌≡◌, ℕ, ◌+◌, ◌-◌, ◌/◌, ◌%◌, ◌<◌, Bool, true, leb, List, sym, subst, mod-lt, arith}
+use Rattle.std.proofs.Common.{◌≡◌, ℕ, ◌+◌, ◌/◌, ◌%◌, ◌<◌, Bool, true, leb, List, sym, subst, mod-lt, arith}
 use Rattle.std.proofs.lemmas.Bool.{and_parts, and_from, le-leb, leb-true}
 use Rattle.search.specs.Queue.{at, Found}
 use Rattle.search.specs.declared.Place.{Place}
@@ -11,7 +11,7 @@ use Rattle.verdicts.specs.Runs.{Grants}
 use Rattle.verdicts.specs.Possible.{makeable}
 use Rattle.verdicts.specs.Searches.{Search}
 use Rattle.seek.specs.Plan.{plan}
-use Rattle.activities.specs.Nodes.{context, move_of}
+use Rattle.activities.specs.Nodes.{move_of}
 
 module _ (kind : Search) (m : Meaning) (gs : Grants) (A B : ℕ → Bool) (l : SoundMeaning m) where
   abbrev n : ℕ

@@ -1,6 +1,5 @@
 -- Properties that are entered and struck stay fit.
-use Rattle.std.proofs.Common.{◌≡◌, ℕ, Bool, true, false, cond, not, ◌||◌, eqb, List, [], ◌∷◌, is_some, Some, None, Option, refl, sym, subst, arith}
-use Rattle.access.specs.Policy.{Meaning}
+use Rattle.std.proofs.Common.{◌≡◌, ℕ, Bool, true, false, cond, not, ◌||◌, eqb, List, [], ◌∷◌, is_some, Some, None, Option, refl, subst, arith}
 use Rattle.access.specs.Refusals.{first_of, when_accepted}
 use Rattle.access.specs.declared.refusal.Refusal.{Refusal}
 use Rattle.access.specs.declared.refusal.Refusal.TheVariants.{NumberOutside, StandsAlready, UnfitSet, SharedContext}

@@ -1,5 +1,5 @@
 -- From a judging of what a sheet holds to one of the book that stands on it.
-use Rattle.std.proofs.Common.{◌≡◌, ℕ, ◌-◌, ◌*◌, Bool, true, false, cond, not, ◌||◌, ◌⊎◌, List, [], ◌∷◌, length, get_or, is_some, Some, None, Ok, Err, Option, Result, sym, refl, ap, ◌∙◌, subst, ⊎_elim, arith}
+use Rattle.std.proofs.Common.{◌≡◌, ℕ, ◌-◌, Bool, true, false, cond, not, ◌||◌, List, [], ◌∷◌, length, get_or, Some, None, Ok, Err, Option, Result, sym, refl, ap, ◌∙◌, subst, ⊎_elim, arith}
 use Rattle.std.proofs.lemmas.Bool.{cases_Bool}
 use Rattle.std.proofs.lemmas.Bool.Decides.{nat_tests}
 use Rattle.access.proofs.Tests.{differ}
@@ -21,7 +21,7 @@ use Rattle.properties.specs.declared.property.Template.{Template}
 use Rattle.properties.specs.declared.property.Template.TheVariants.{Integrity, Confidentiality, Domain, Consistency}
 use Rattle.judge.specs.Judged.{forbidding, property_of, Answered}
 use Rattle.judge.specs.declared.verdict.Verdict.{Verdict}
-use Rattle.entries.specs.Entries.{Entries, in_range, in_order}
+use Rattle.entries.specs.Entries.{in_range, in_order}
 use Rattle.entries.specs.Held.{held}
 use Rattle.sheet.specs.Book.{Book, unfit, unfit_second}
 use Rattle.sheet.specs.Stands.{shown, Stands}

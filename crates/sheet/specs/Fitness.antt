@@ -1,5 +1,5 @@
 -- The properties that stand in a book are fit.
-use Rattle.std.specs.Prelude.{◌≡◌, ℕ, true, List}
+use Rattle.std.specs.Prelude.{List}
 use Rattle.access.specs.Policy.{Meaning}
 use Rattle.sheet.specs.Book.{Book, start, fed_all}
 use Rattle.sheet.specs.Judging.{Fit}
