@@ -2,7 +2,7 @@
 use Rattle.std.proofs.Common.{◌≡◌, ℕ, suc, ◌+◌, ◌-◌, ◌≤◌, Bool, true, false, T, List, [], ◌∷◌, ◌++◌, reverse, length, refl, ap, ◌∙◌, subst, ⊎_elim, arith, length-append}
 use mathlib.Core.List.{reverse-reverse}
 use lib.ListN.{length-reverse}
-use Rattle.std.specs.List.{AllByRecursion as All}
+use Rattle.std.specs.List.{AllByRecursion}
 use Rattle.std.proofs.ByRecursion.{All-append}
 use Rattle.std.proofs.lemmas.Bool.{cases_lt}
 use Rattle.verdicts.specs.Activities.{Move, Chain, same}
@@ -17,7 +17,7 @@ turned_length false ms = refl
 
 module _ (kind : Search) (makeable : Move → Bool) where
   abbrev each : List Move → Type 0
-  each ms = All (λ v. T (makeable v)) ms
+  each ms = AllByRecursion (λ v. T (makeable v)) ms
 
   abbrev Walks : ℕ → ℕ → ℕ → ℕ → Type 0
   Walks p c d k = Walk kind makeable (λ x. true) p c d k

@@ -2,7 +2,7 @@
 -- which a forbidden activity is realised is broken in the least number of moves, with steps.
 use Rattle.std.proofs.Common.{ℕ, ◌≤◌, T, eqb, List, [], ◌∷◌, map, length, sym, refl, subst, inl, inr, ⊎_elim, arith, T_not}
 use lib.Bits.{bit_or}
-use Rattle.std.specs.List.{AllByRecursion as All}
+use Rattle.std.specs.List.{AllByRecursion}
 use Rattle.access.specs.Operations.{has, read_op, write_op, become_op, any_op, write_like}
 use Rattle.access.specs.Policy.{Meaning, Interaction}
 use Rattle.verdicts.specs.Runs.{Grants}
@@ -56,11 +56,11 @@ module _ (m : Meaning) (gs : Grants) where
   shown_possible (transfer g k) i h = ⊎_elim (λ p. p.possible) (λ p. p.1.possible) h
   shown_possible (contact s t) i h = h.possible
 
-  pub shown_can : {vs : List Move} {ss : List Step} → Pairwise (AsStep m gs) vs ss → All (Can m gs) (map (λ (s : Step). s.interaction) ss)
+  pub shown_can : {vs : List Move} {ss : List Step} → Pairwise (AsStep m gs) vs ss → AllByRecursion (Can m gs) (map (λ (s : Step). s.interaction) ss)
   shown_can none = tt
   shown_can (also {a = v} {b = s} p ps) = (((reduction m gs (s.interaction ∷ [])).0 (shown_possible v s.interaction p.0)).0, shown_can ps)
 
-  steps_for : (vs : List Move) → All (CanMake m gs) vs → (ss : List Step) × Pairwise (AsStep m gs) vs ss
+  steps_for : (vs : List Move) → AllByRecursion (CanMake m gs) vs → (ss : List Step) × Pairwise (AsStep m gs) vs ss
   steps_for [] h = ([], none)
   steps_for (v ∷ vs) h =
       let i = shown_exists v h.0 in

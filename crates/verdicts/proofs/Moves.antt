@@ -1,7 +1,7 @@
 -- Which moves legal runs make: an activity is realised exactly where each of its moves can be made.
 use Rattle.std.proofs.Common.{ℕ, ◌<◌, Bool, ◌&&◌, T, eqb, ◌↔◌, List, [], ◌∷◌, sym, refl, subst, subst₂, inl, inr, ⊎_elim, eqb→eq, T_not}
 use lib.Dec.{not_T}
-use Rattle.std.specs.List.{AllByRecursion as All}
+use Rattle.std.specs.List.{AllByRecursion}
 use Rattle.access.specs.Operations.{kind_of, has, read_op, write_op, become_op, read_like, write_like, become_like}
 use Rattle.access.specs.declared.operation.Kind.{Kind}
 use Rattle.access.specs.declared.operation.Kind.TheVariants.{Neither}
@@ -63,11 +63,11 @@ module _ (m : Meaning) (gs : Grants) where
   done_makeable (contact s t) i w h =
       not_T (eqb (Set s t) 0) (λ e. subst T (has_none i.operation) (subst (λ x. T (has x i.operation)) (eqb→eq (Set s t) 0 e) (does_has w h)))
 
-  all_makeable : {ms : List Move} {is : List Interaction} → Pairwise Makes ms is → All (Can m gs) is → All (CanMake m gs) ms
+  all_makeable : {ms : List Move} {is : List Interaction} → Pairwise Makes ms is → AllByRecursion (Can m gs) is → AllByRecursion (CanMake m gs) ms
   all_makeable none h = tt
   all_makeable (also {a = v} {b = i} w ws) h = (done_makeable v i w h.0, all_makeable ws h.1)
 
-  all_done : (ms : List Move) → All (CanMake m gs) ms → (is : List Interaction) × Pairwise Makes ms is × All (Can m gs) is
+  all_done : (ms : List Move) → AllByRecursion (CanMake m gs) ms → (is : List Interaction) × Pairwise Makes ms is × AllByRecursion (Can m gs) is
   all_done [] h = ([], none, tt)
   all_done (v ∷ ms) h =
       let d = makeable_done v h.0 in
@@ -75,7 +75,7 @@ module _ (m : Meaning) (gs : Grants) where
       (d.interaction ∷ r.0, also d.makes r.1, (d.can, r.2))
 
   -- an activity is realised exactly where each of its moves can be made
-  pub realised : (ms : List Move) → Realises m gs ms ↔ All (CanMake m gs) ms
+  pub realised : (ms : List Move) → Realises m gs ms ↔ AllByRecursion (CanMake m gs) ms
   realised ms = (
     (λ r. all_makeable r.makes ((reduction m gs r.interactions).0 r.legal)),
     (λ h. let d = all_done ms h in record { interactions = d.0; makes = d.1; legal = (reduction m gs d.0).1 d.2 }),

@@ -2,7 +2,7 @@
 use Rattle.std.proofs.Common.{◌≡◌, ℕ, ◌^◌, Bool, true, false, cond, not, ◌&&◌, T, eqb, ◌⊎◌, ◌↔◌, List, [], ◌∷◌, sym, refl, ap, ◌∙◌, subst, subst₂, inl, inr, ⊎_elim, arith, eqb→eq, pow_pos}
 use lib.Bits.{bit_and, bit_or}
 use lib.Dec.{eqb_refl}
-use Rattle.std.specs.List.{AllByRecursion as All}
+use Rattle.std.specs.List.{AllByRecursion}
 use Rattle.access.specs.Operations.{has, without}
 use Rattle.access.specs.Policy.{Matrix, Meaning, Interaction, with_pair}
 use Rattle.verdicts.specs.Runs.{World, added, Grant, Grants, Standing, here, there, Over, Permits, Run, stop, add, remove, act, Legal}
@@ -104,7 +104,7 @@ module _ (m : Meaning) (gs : Grants) where
       with_pair_cases (λ a b c. (o : ℕ) → T (has c o) → T (has (bit_or (m.written a b) (granted gs a b)) o)) w s t set x y
       (λ o k. ⊎_elim (v s t o) (has_right (m.written s t) (granted gs s t) o) (h o k)) (v x y)
 
-  run_within : {w : World} {is : List Interaction} → Within w → Run m.permitted gs w is → All (Can m gs) is
+  run_within : {w : World} {is : List Interaction} → Within w → Run m.permitted gs w is → AllByRecursion (Can m gs) is
   run_within v stop = tt
   run_within {w} v (add k s t part p r) =
       run_within (changed_within w s t (bit_or (w s t) part) v (λ o h. ⊎_elim inl (λ q. inr (permits_granted o p q)) (or_has (w s t) part o h))) r
@@ -124,7 +124,7 @@ module _ (m : Meaning) (gs : Grants) where
   one_bit : (s t o : ℕ) (g : Granting gs s t o) → Permits gs g.number s t (2 ^ o)
   one_bit s t o g = record { over = g.over; within = power_and o g.over.grant.operations g.gives; some = λ e. omega (arith, pow_pos o) }
 
-  run_from : (is : List Interaction) (w : World) → Keeps w → All (Can m gs) is → Run m.permitted gs w is
+  run_from : (is : List Interaction) (w : World) → Keeps w → AllByRecursion (Can m gs) is → Run m.permitted gs w is
   run_from [] w v h = stop
   run_from (i ∷ is) w v h =
       let s = i.subject in
@@ -140,5 +140,5 @@ module _ (m : Meaning) (gs : Grants) where
       (or_has (m.written s t) (granted gs s t) o c.1)
 
   -- a list of interactions is a legal run's exactly where each is possible
-  pub reduction : (is : List Interaction) → Legal m gs is ↔ All (Can m gs) is
+  pub reduction : (is : List Interaction) → Legal m gs is ↔ AllByRecursion (Can m gs) is
   reduction is = (run_within (λ s t o h. has_left (m.written s t) (granted gs s t) o h), run_from is m.written (λ s t o h. h))

@@ -3,7 +3,7 @@
 use Rattle.std.proofs.Common.{◌≡◌, ℕ, zero, suc, ◌+◌, ◌<◌, ◌≤◌, Bool, true, false, cond, not, ◌&&◌, T, eqb, ◌⊎◌, List, [], ◌∷◌, ◌++◌, reverse, length, sym, refl, ap, ◌∙◌, subst, inl, inr, ⊎_elim, arith, length-append}
 use lib.Dec.{eqb_refl}
 use lib.ListN.{length-reverse}
-use Rattle.std.specs.List.{AllByRecursion as All}
+use Rattle.std.specs.List.{AllByRecursion}
 use Rattle.std.proofs.lemmas.Bool.{cases_eq, ne_eqb}
 use Rattle.std.proofs.ByRecursion.{All-append}
 use Rattle.verdicts.specs.Activities.{Move, transfer, Chain, same, next, Push, Pull, Flow}
@@ -124,7 +124,7 @@ module _ (kind : Search) (makeable : Move → Bool) where
   -- ---- walks and chains
 
   abbrev Every : List Move → Type 0
-  Every ms = All (λ v. T (makeable v)) ms
+  Every ms = AllByRecursion (λ v. T (makeable v)) ms
 
   abbrev any : ℕ → Bool
   any c = true
@@ -173,7 +173,7 @@ module _ (kind : Search) (makeable : Move → Bool) where
 
 module _ (makeable : Move → Bool) where
   abbrev each : List Move → Type 0
-  each ms = All (λ v. T (makeable v)) ms
+  each ms = AllByRecursion (λ v. T (makeable v)) ms
 
   -- an activity of makeable moves, by their number
   pub record MakesIn (Activity : List Move → Type 0) (k : ℕ) : Type 0 where

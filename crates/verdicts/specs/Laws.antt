@@ -1,6 +1,6 @@
 -- What holds of the verdicts, whatever the policy and the grants.
 use Rattle.std.specs.Prelude.{◌≡◌, ℕ, ◌≤◌, Bool, T, ◌⊎◌, ◌↔◌, List, length}
-use Rattle.std.specs.List.{AllByRecursion as All}
+use Rattle.std.specs.List.{AllByRecursion}
 use Rattle.access.specs.Contexts.{inside}
 use Rattle.access.specs.Policy.{Meaning, Interaction}
 use Rattle.access.specs.Sound.{Sound}
@@ -23,9 +23,9 @@ OfContexts n (domain A) = Unit {0}
 -- the laws of the verdicts
 pub record VerdictLaws : Type 0 where
   -- a list of interactions is a legal run's exactly where each is possible
-  pub legal : (m : Meaning) (gs : Grants) (is : List Interaction) → Legal m gs is ↔ All (Can m gs) is
+  pub legal : (m : Meaning) (gs : Grants) (is : List Interaction) → Legal m gs is ↔ AllByRecursion (Can m gs) is
   -- an activity is realised exactly where each of its moves can be made
-  pub realised : (m : Meaning) (gs : Grants) (ms : List Move) → Realises m gs ms ↔ All (CanMake m gs) ms
+  pub realised : (m : Meaning) (gs : Grants) (ms : List Move) → Realises m gs ms ↔ AllByRecursion (CanMake m gs) ms
   -- every property is guaranteed or broken
   pub exhaustive : (m : Meaning) (gs : Grants) → Sound m → (p : Property) → OfContexts m.contexts p → Guaranteed m gs p ⊎ ((ss : List Step) × Broken m gs p ss)
   -- and never both
