@@ -25,7 +25,7 @@ use Rattle.entries.specs.Entries.{in_range, in_order}
 use Rattle.entries.specs.Held.{held}
 use Rattle.sheet.specs.Book.{Book, unfit, unfit_second}
 use Rattle.sheet.specs.Stands.{shown, Stands}
-use Rattle.sheet.specs.Judging.{fits, Fit, short, judging_refusal, standing_grants, VerdictOn, Judges}
+use Rattle.sheet.specs.Judging.{fits, short, judging_refusal, standing_grants, VerdictOn, Judges}
 use Rattle.sheet.specs.declared.sheet.Sheet.{Sheet}
 
 -- only one refusal has number 12
@@ -87,9 +87,9 @@ ranged_entry false o e is = let z : ◌≡◌ {A = ℕ} 0 1 = cc in absurd (omeg
 
 module _ (k : ℕ) (ts : List ℕ) (ps ps' : List Place) (ss ss' : List Step) where
   -- in a book that has property k standing
-  judges : (b : Book) (p : Property) → in_range 64 k ≡ true → b.properties k ≡ Some p → fits b.policy.contexts (Some p) ≡ true → (r : Result Verdict Refusal)
+  judges : (b : Book) (p : Property) → in_range 64 k ≡ true → b.properties k ≡ Some p → (r : Result Verdict Refusal)
       → Answered b.policy (standing_grants b) (property_of p) ts ps ps' ss ss' r → Judges b k ts ps ps' ss ss' r
-  judges b p ranged stands fit r a = go r a
+  judges b p ranged stands r a = go r a
     where
       by_memory : (s : Bool) → short b.policy.contexts (length ts) (length ps) (length ss) ≡ s → judging_refusal b k (length ts) (length ps) (length ss) ≡ first_of ((s, why.ShortMemory) ∷ [])
       by_memory s e = rw (ranged, stands, e) refl
@@ -99,16 +99,16 @@ module _ (k : ℕ) (ts : List ℕ) (ps ps' : List Place) (ss ss' : List Step) wh
 
       go : (r : Result Verdict Refusal) → Answered b.policy (standing_grants b) (property_of p) ts ps ps' ss ss' r → Judges b k ts ps ps' ss ss' r
       go (Ok v) (suffices, told) =
-          (by_memory false (enough b.policy.contexts ts ps ss suffices), λ q is. subst (λ (x : Property). VerdictOn b x ss ss' v) (some_same is) (told (of_contexts b.policy.contexts p fit)))
+          (by_memory false (enough b.policy.contexts ts ps ss suffices), λ q is fit. subst (λ (x : Property). VerdictOn b x ss ss' v) (some_same is) (told (of_contexts b.policy.contexts p (subst (λ (x : Property). fits b.policy.contexts (Some x) ≡ true) (sym (some_same is)) fit))))
       go (Err w) (is, lacks, places, steps) = (by_memory true (scarce b.policy.contexts ts ps ss lacks) ∙ ap Some (sym (is_12 w is)), places, steps)
 
   -- on a sheet that holds property k
   pub judges_on : {P : Type 0} (meaning : P → Meaning) (sheet : Sheet P) (p : Property) (gs : List (Option Grant)) → gs ≡ in_order (held sheet.grants) 0 32 → held sheet.properties k ≡ Some p
       → (r : Result Verdict Refusal) → Answered (meaning sheet.policy) (standing gs 0) (property_of p) ts ps ps' ss ss' r
-      → (b : Book) → Stands meaning b sheet → Fit b → Judges b k ts ps ps' ss ss' r
-  judges_on meaning sheet p gs is stands r a b st fit =
+      → (b : Book) → Stands meaning b sheet → Judges b k ts ps ps' ss ss' r
+  judges_on meaning sheet p gs is stands r a b st =
       let m : Meaning = meaning sheet.policy in
       let ranged : in_range 64 k ≡ true = ranged_entry (in_range 64 k) (get_or sheet.properties.entries (k - 1) None) p stands in
       subst (λ (x : Book). Judges x k ts ps ps' ss ss' r) (sym st.shows)
-      (judges (shown meaning sheet) p ranged stands (subst (λ (o : Option Property). fits m.contexts o ≡ true) stands (subst (λ (x : Book). fits x.policy.contexts (x.properties k) ≡ true) st.shows (fit k))) r
+      (judges (shown meaning sheet) p ranged stands r
       (subst (λ (l : List (Option Grant)). Answered m (standing l 0) (property_of p) ts ps ps' ss ss' r) is a))

@@ -47,9 +47,10 @@ VerdictOn b p ss ss' v =
     Judged b.policy (standing_grants b) (property_of p) ss ss' v
     × ((v ≡ Guaranteed) ↔ Holds b.policy (standing_grants b) (property_of p))
 
--- judging property k: refused as the book has it, the places and the steps as before; else a verdict on the property
+-- judging property k: refused as the book has it, the places and the steps as before; else a verdict on the property, where its
+-- sets are fit
 abbrev pub Judges : Book → ℕ → List ℕ → List Place → List Place → List Step → List Step → Result Verdict Refusal → Type 0
-Judges b k ts ps ps' ss ss' (Ok v) = (judging_refusal b k (length ts) (length ps) (length ss) ≡ None) × ((p : Property) → b.properties k ≡ Some p → VerdictOn b p ss ss' v)
+Judges b k ts ps ps' ss ss' (Ok v) = (judging_refusal b k (length ts) (length ps) (length ss) ≡ None) × ((p : Property) → b.properties k ≡ Some p → fits b.policy.contexts (Some p) ≡ true → VerdictOn b p ss ss' v)
 Judges b k ts ps ps' ss ss' (Err why) = (judging_refusal b k (length ts) (length ps) (length ss) ≡ Some why) × (ps' ≡ ps) × (ss' ≡ ss)
 
 -- the property that is to be judged, or why there is none

@@ -2,7 +2,7 @@
 ghost use Rattle.std.specs.Prelude.{◌≡◌, length, replicate};
 ghost use Rattle.sheet.specs.Book.{Book};
 ghost use Rattle.sheet.specs.Stands.{Stands, shown};
-ghost use Rattle.sheet.specs.Judging.{Fit, Judges, ToJudge};
+ghost use Rattle.sheet.specs.Judging.{Judges, ToJudge};
 
 use crate::numbers::is_within;
 use crate::sheet::Sheet;
@@ -38,7 +38,7 @@ impl<P: Policy> Sheet<P> {
         places: &mut [Place],
         steps: &mut [Step],
     ) -> Result<Verdict, Refusal>
-        ensures answer { (b : Book) → Stands P.Policy.meaning b self.now → Fit b → Judges b number ticks.old places.old places.new steps.old steps.new result }
+        ensures answer { (b : Book) → Stands P.Policy.meaning b self.now → Judges b number ticks.old places.old places.new steps.old steps.new result }
         ensures ticks { ticks.new ≡ replicate (length ticks.old) 0 }
     {
         match self.property(number) {
