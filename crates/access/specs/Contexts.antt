@@ -1,11 +1,15 @@
 -- Contexts and sets of contexts.
-use Rattle.std.specs.Prelude.{ℕ, zero, suc, ◌-◌, ◌/◌, ◌%◌, Bool, false, not, ◌&&◌, ◌||◌, nat_le, nat_lt, slice_index}
+use Rattle.std.specs.Prelude.{ℕ, zero, suc, ◌-◌, ◌/◌, ◌%◌, Bool, false, not, cond, ◌&&◌, ◌||◌, Some, None, Option, nat_le, nat_lt, slice_index}
 use Rattle.access.specs.Operations.{has}
 use Rattle.access.specs.declared.context_set.ContextSet.{ContextSet}
 
 -- a context is a number from 1 to n
 abbrev pub inside : ℕ → ℕ → Bool
 inside n c = nat_le 1 c && nat_le c n
+
+-- the index of a number that counts from 1, in a list of n
+abbrev pub index_of : ℕ → ℕ → Option ℕ
+index_of n k = cond (inside n k) (Some (k - 1)) None
 
 abbrev pub both_inside : ℕ → ℕ → ℕ → Bool
 both_inside n s t = inside n s && inside n t

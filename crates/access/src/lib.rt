@@ -3,6 +3,7 @@
 #![tactic(auto)]
 
 pub mod context_set;
+pub mod numbers;
 pub mod operation;
 pub mod operation_set;
 pub mod policy;
