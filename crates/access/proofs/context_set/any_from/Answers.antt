@@ -1,12 +1,9 @@
-use Rattle.std.proofs.Common.{arith}
-use Rattle.access.proofs.ContextLaws.{from_none, from_some, from_high}
+use Rattle.std.proofs.Common.{arith, le-ltb}
+use Rattle.access.proofs.ContextLaws.{from_told, past_none}
 use Rattle.access.proofs.context_set.any_from.Goals as goal
 
-pub returns-then-k-ge64 : goal.returns-then-k-ge64
-returns-then-k-ge64 c = λ j h. from_high c.args.word j (omega arith) (omega arith)
+pub returns-then-k-lt64 : goal.returns-then-k-lt64
+returns-then-k-lt64 c = from_told c.args.word c.args.k (omega arith)
 
-pub returns-then-word-k-eq0 : goal.returns-then-word-k-eq0
-returns-then-word-k-eq0 c = from_none c.args.word c.args.k c.if-word-k-eq0.true
-
-pub returns : goal.returns
-returns c = from_some c.args.word c.args.k (omega arith) (let n = c.if-word-k-eq0.false in omega arith)
+pub returns-else-k-lt64 : goal.returns-else-k-lt64
+returns-else-k-lt64 c = rw (le-ltb c.args.k 64 c.if-k-lt64.false) (past_none c.args.word c.args.k (omega arith) c.if-k-lt64.false)
