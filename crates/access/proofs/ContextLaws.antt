@@ -1,5 +1,5 @@
 -- The members of a set of contexts, by its words.
-use Rattle.std.proofs.Common.{◌≡◌, ℕ, zero, suc, ◌+◌, ◌-◌, ◌*◌, ◌/◌, ◌%◌, ◌^◌, ◌<◌, ◌≤◌, Bool, true, false, not, ◌&&◌, ◌||◌, T, eqb, ltb, List, length, get_or, set, Some, None, sym, refl, ap, ◌∙◌, subst, ap₂, ⊎_elim, arith, get_or-set_other, get_or-set_same, shr-shr, w64, MatchBool}
+use Rattle.std.proofs.Common.{◌≡◌, ℕ, zero, suc, ◌+◌, ◌-◌, ◌*◌, ◌/◌, ◌%◌, ◌^◌, ◌<◌, ◌≤◌, Bool, true, false, not, ◌&&◌, ◌||◌, T, eqb, ltb, List, length, get_or, set, Some, None, sym, refl, ap, ◌∙◌, subst, ap₂, ⊎_elim, arith, get_or-set_other, get_or-set_same, shr-shr, w64, div-lt_iff_lt-mul, pow_pos, MatchBool}
 use lib.Bits.{bit_and, bit_or}
 use Rattle.std.specs.List.{enumerate_from, HoldsAt, AllWithin}
 use Rattle.std.proofs.lemmas.Bool.{cases_eq, cases_lt, cases_Bool, both_ways, false_from_ne_true, eq-eqb, ne_eqb, lt-ltb, le-ltb, and_parts, and_from, and_left, and_right, or_from, or_left, or_right}
@@ -9,7 +9,7 @@ use Rattle.std.proofs.lemmas.Nat.Bits.{bit_at_set_same, bit_at_set_other, bit_at
 use Rattle.access.specs.Operations.{has}
 use Rattle.access.specs.Contexts.{inside, index_of, member, some_to, has_above}
 use Rattle.access.specs.declared.context_set.ContextSet.{ContextSet}
-use Rattle.access.proofs.Bits.{has_none, has_and, has_some, has_below}
+use Rattle.access.proofs.Bits.{has_and, has_some, has_below}
 use Rattle.access.proofs.Tests.{T_true}
 
 -- the bit of context d
@@ -185,10 +185,8 @@ above_zero (suc n) p q h = ap₂ (λ a b. a || b) (ap (λ b. b && p (suc n)) (lt
 
 -- ---- bits from a place on
 
-from_none : (w k : ℕ) → w / 2 ^ k ≡ 0 → (j : ℕ) → k ≤ j → has w j ≡ false
-from_none w k e j l =
-    let i : k + (j - k) ≡ j = omega arith in
-    ap (has w) (sym i) ∙ ap (λ x. eqb (x % 2) 1) (sym (shr-shr w k (j - k)) ∙ ap (λ x. x / 2 ^ (j - k)) e) ∙ has_none (j - k)
+pub low_none : (w k : ℕ) → w < 2 ^ k → (j : ℕ) → k ≤ j → has w j ≡ false
+low_none w k f j l = ap (λ x. eqb x 1) (bit_at_above w k j f l)
 
 from_some : (w k : ℕ) → w < 2 ^ 64 → (w / 2 ^ k ≡ 0 → ⊥) → (j : ℕ) × (k ≤ j) × (j < 64) × (has w j ≡ true)
 from_some w k f h =
@@ -198,9 +196,6 @@ from_some w k f h =
 
 pub from_told : (w k : ℕ) → w < 2 ^ 64 → MatchBool (not (eqb (w / 2 ^ k) 0)) ((j : ℕ) × (k ≤ j) × (j < 64) × (has w j ≡ true)) ((j : ℕ) → k ≤ j → has w j ≡ false)
 from_told w k f = ⊎_elim
-    (λ (e : w / 2 ^ k ≡ 0). rw (eq-eqb (w / 2 ^ k) 0 e) (from_none w k e))
+    (λ (e : w / 2 ^ k ≡ 0). rw (eq-eqb (w / 2 ^ k) 0 e) (low_none w k (omega (arith, (div-lt_iff_lt-mul {k = 2 ^ k} {x = w} {y = 1} (pow_pos k)).0 (omega (arith, e))))))
     (λ n. rw (ne_eqb (w / 2 ^ k) 0 n) (from_some w k f n))
     (cases_eq (w / 2 ^ k) 0)
-
-pub past_none : (w k : ℕ) → w < 2 ^ 64 → 64 ≤ k → (j : ℕ) → k ≤ j → has w j ≡ false
-past_none w k f h j l = ap (λ x. eqb x 1) (bit_at_above w 64 j f (omega arith))

@@ -65,13 +65,7 @@ has_cond false k o = has_none o
 pub has_set_of : (test : ℕ → Bool) (k o : ℕ) → has (set_of test k) o ≡ (ltb o k && test o)
 has_set_of test zero o = has_none o ∙ grind (arith, nat_tests)
 has_set_of test (suc k) o =
-    has_or (cond (test k) (2 ^ k) 0) (set_of test k) o ∙ ap₂ ◌||◌ (has_cond (test k) k o) (has_set_of test k o) ∙ ⊎_elim there elsewhere (cases_eq o k)
-  where
-    there : o ≡ k → ((test k && eqb k o) || (ltb o k && test o)) ≡ (ltb o (suc k) && test o)
-    there e = grind (arith, nat_tests)
-
-    elsewhere : (o ≡ k → ⊥) → ((test k && eqb k o) || (ltb o k && test o)) ≡ (ltb o (suc k) && test o)
-    elsewhere n = grind (arith, nat_tests)
+    has_or (cond (test k) (2 ^ k) 0) (set_of test k) o ∙ ap₂ ◌||◌ (has_cond (test k) k o) (has_set_of test k o) ∙ ⊎_elim (λ (e : o ≡ k). grind (arith, nat_tests)) (λ (n : o ≡ k → ⊥). grind (arith, nat_tests)) (cases_eq o k)
 
 -- an operation of a kind that `Neither` is not of is one of the twelve
 pub kind_below : (test : Kind → Bool) (o : ℕ) → (T (test Neither) → ⊥) → T (test (kind_of o)) → o < 12

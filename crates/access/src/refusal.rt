@@ -60,17 +60,20 @@ impl fmt::Display for Refusal {
             Refusal::StandsAlready => "the number to be entered stands already",
             Refusal::StandsNot => "the number to be struck or judged does not stand",
             Refusal::ContextOutside => "a context of a setting is outside 1 to n",
-            Refusal::UnfitOperations => "an operation set is not fit",
-            Refusal::UnfitSet => "a set of contexts is not fit",
+            Refusal::UnfitOperations =>
+                "an operation set holds an unknown operation, or a grant's is empty",
+            Refusal::UnfitSet =>
+                "a set has a member above n, or is empty or filled where it may not be",
             Refusal::SharedContext => "the two sets of a property share a context",
             Refusal::OpenAlready => "a change is open already",
             Refusal::NoneOpen => "no change is open",
             Refusal::NotesFull => "the open change notes 128 settings already",
-            Refusal::PolicyFull => "the policy has no room for another pair",
+            Refusal::PolicyFull => "the policy has no room for one pair more",
             Refusal::ShortMemory => "working memory or report memory is too short",
             Refusal::LongText => "the text is longer than 65,536 bytes",
-            Refusal::UnfitLine => "a line is not fit",
-            Refusal::ContextCount => "there are too few or too many contexts",
+            Refusal::UnfitLine =>
+                "a line is too long, without its line feed, ill-formed or out of order",
+            Refusal::ContextCount => "no context is declared, or more than 256 are",
             Refusal::UnfitWord => "a word has not its shape",
             Refusal::UnfitName => "a name is unknown, or declared again",
         })
