@@ -10,7 +10,7 @@ use crate::rule::{Rule, unless};
 use access::operation_set::OperationSet;
 use access::policy::Policy;
 
-/// No reading of a lower level, and no writing to a higher level or executing there.
+/// Leaves no reading of a lower level, and no writing to a higher level or executing there.
 #[derive(Clone, Copy, Debug, PartialEq, Eq)]
 pub struct Levels {
     pub levels: Labels,

@@ -10,7 +10,7 @@ use crate::rule::{Rule, unless};
 use access::operation_set::OperationSet;
 use access::policy::Policy;
 
-/// The constrained operations only between contexts of one owner.
+/// Leaves the constrained operations only between contexts of one owner.
 #[derive(Clone, Copy)]
 pub struct Owners {
     pub owners: Labels,

@@ -4,7 +4,7 @@ ghost use Rattle.layers.specs.Layers.{unless as left_unless};
 
 use access::operation_set::OperationSet;
 
-/// What is left of a permitted set on a pair of a subject and a target.
+/// Which operations of a permitted set are left on a pair of a subject and a target.
 pub trait Rule {
     ghost left: { Self → ℕ → ℕ → ℕ → ℕ };
 
