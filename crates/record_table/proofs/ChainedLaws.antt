@@ -3,7 +3,7 @@ use Rattle.std.proofs.Common.{◌≡◌, ℕ, zero, suc, ◌≤◌, List, [], �
 use mathlib.Core.Logic.{∥∥₁_elim, ∥∥₁_prop}
 use native.Mathlib.Nat.{ℕ_set}
 use native.Mathlib.Bridge.{le_prop}
-use Rattle.record_table.specs.declared.records.Record.{Record}
+use Rattle.record_table.specs.declared.chains.Record.{Record}
 use Rattle.record_table.specs.declared.table.RecordTable.{RecordTable}
 use Rattle.record_table.specs.Chains.{numbered, first_of}
 use Rattle.record_table.specs.Laid.{In, Linked, look, Fit, Tidy, Laid}
@@ -75,10 +75,10 @@ table_chained p = record {
     n = p.contexts
 
     first : ℕ → ℕ
-    first = first_of p.heads
+    first = first_of p.chains.heads
 
     mem : ℕ → Record
-    mem = numbered p.records.slots
+    mem = numbered p.chains.slots
 
     fit_prop : (r : Record) → IsProp (Fit n r)
     fit_prop r = λ x y i. (le_prop x.0 y.0 i, le_prop x.1 y.1 i, le_prop x.2 y.2 i, le_prop x.3 y.3 i)

@@ -5,7 +5,8 @@ use Rattle.access.specs.Contexts.{both_inside}
 use Rattle.access.specs.Sound.{pairs}
 use Rattle.access.proofs.Pairs.{pairs_alike, pairs_none}
 use Rattle.access.proofs.Settings.{pair_parts}
-use Rattle.record_table.specs.declared.records.Record.{Record}
+use Rattle.record_table.specs.declared.chains.Record.{Record}
+use Rattle.record_table.specs.declared.chains.Chains.{Chains}
 use Rattle.record_table.specs.Chains.{unused_before, blank, numbered, first_of, LinksLow}
 use Rattle.record_table.specs.Laid.{Out, In, Linked, Tidy, Laid, held_by}
 use Rattle.record_table.specs.TableMeaning.{written_of}
@@ -48,9 +49,15 @@ first_low : (c : ℕ) → first_of heads c ≤ 1024
 first_low zero = omega arith
 first_low (suc c) = rw (first_none (suc c) (omega arith)) (omega arith)
 
-module _ (n : ℕ) (slots : List Record) (all : length slots ≡ 1024) (links : (k : ℕ) → k < 1023 → get_or slots k blank ≡ unused_before (k + 2)) (last : get_or slots 1023 blank ≡ blank) where
+module _ (n : ℕ) (k : Chains) (starts : k.heads ≡ set (replicate 257 0) 0 1) (all : length k.slots ≡ 1024) (links : (j : ℕ) → j < 1023 → get_or k.slots j blank ≡ unused_before (j + 2)) (last : get_or k.slots 1023 blank ≡ blank) where
+  abbrev slots : List Record
+  slots = k.slots
+
   abbrev mem : ℕ → Record
   mem = numbered slots
+
+  first_is : (c : ℕ) → first_of k.heads c ≡ first_of heads c
+  first_is c = ap (λ (hs : List ℕ). first_of hs c) starts
 
   next_is : (k : ℕ) → 1 ≤ k → k < 1024 → (mem k).next ≡ suc k
   next_is k low high = ap (λ (r : Record). r.next) (numbered_is slots k low ∙ links (k - 1) (omega arith)) ∙ omega arith
@@ -67,10 +74,10 @@ module _ (n : ℕ) (slots : List Record) (all : length slots ≡ 1024) (links : 
   fresh_chains zero = 1 ∷ from 2 1023
   fresh_chains (suc c) = []
 
-  fresh_linked : (c : ℕ) → Linked mem (λ _. 0) c (first_of heads c) (fresh_chains c)
+  fresh_linked : (c : ℕ) → Linked mem (λ _. 0) c (first_of k.heads c) (fresh_chains c)
   unfolding fresh_chains
-  fresh_linked zero = chained 1023 1 (omega arith) refl
-  fresh_linked (suc c) = first_none (suc c) (omega arith)
+  fresh_linked zero = rw (first_is 0) (chained 1023 1 (omega arith) refl)
+  fresh_linked (suc c) = first_is (suc c) ∙ first_none (suc c) (omega arith)
 
   fresh_none : (c t : ℕ) → 1 ≤ c → held_by mem fresh_chains c t ≡ 0
   unfolding fresh_chains
@@ -85,7 +92,7 @@ module _ (n : ℕ) (slots : List Record) (all : length slots ≡ 1024) (links : 
   unfolding fresh_chains
   fresh_unused = ap suc (length_from 2 1023)
 
-  pub fresh_laid : Laid n (first_of (set (replicate 257 0) 0 1)) (numbered slots)
+  pub fresh_laid : Laid n (first_of k.heads) (numbered k.slots)
   unfolding fresh_chains
   fresh_laid = record {
     chains = fresh_chains;
@@ -105,11 +112,11 @@ module _ (n : ℕ) (slots : List Record) (all : length slots ≡ 1024) (links : 
       (λ ne. rw (links k (omega arith)) (omega arith))
       (cases_eq k 1023)
 
-  pub fresh_arrays : Arrays (set (replicate 257 0) 0 1) slots
-  fresh_arrays = record { heads_size = refl; slots_size = all; firsts = first_low; links = low }
+  pub fresh_arrays : Arrays k
+  fresh_arrays = record { heads_size = ap length starts; slots_size = all; firsts = λ c. rw (first_is c) (first_low c); links = low }
 
-  pub fresh_written : (s t : ℕ) → written_of n (first_of (set (replicate 257 0) 0 1)) (numbered slots) s t ≡ 0
+  pub fresh_written : (s t : ℕ) → written_of n (first_of k.heads) (numbered k.slots) s t ≡ 0
   fresh_written s t = ⊎_elim
-      (λ h. let p = pair_parts n s t h in rw (h, first_none s p.0, that_end (λ r. eqb r.target t) mem 1024) refl)
+      (λ h. let p = pair_parts n s t h in rw (h, first_is s, first_none s p.0, that_end (λ r. eqb r.target t) mem 1024 0 refl) refl)
       (λ h. rw h refl)
       (cases_Bool (both_inside n s t))

@@ -10,4 +10,4 @@ pub returns-in-Some : goal.returns-in-Some
 returns-in-Some c = λ s t at own. sym (room_for_own c.args.self.now s t at c.args.operations.bits c.in-Some.field-0 (subst (Own c.args.self.now s t) c.in-Some.is own))
 
 pub returns-in-None : goal.returns-in-None
-returns-in-None c = λ s t at own. room_for_new c.args.self.now s t at c.args.operations.bits (sym c.if-is_empty.ensures) (subst (Own c.args.self.now s t) c.in-None.is own)
+returns-in-None c = λ s t at own. rw c.first.ensures (room_for_new c.args.self.now s t at c.args.operations.bits (sym c.if-is_empty.ensures) (subst (Own c.args.self.now s t) c.in-None.is own))

@@ -29,7 +29,7 @@ add-requires c =
       some = let n = eqb-false v 0 filled in omega (arith, n);
       known = c.requires.known;
       lacks = lacks;
-      room = let n = eqb-false (first_of p.heads 0) 0 (room_for_new p c.args.s c.args.t c.requires.pair v filled lacks ∙ c.requires.room) in omega (arith, n);
+      room = let n = eqb-false (first_of p.chains.heads 0) 0 (room_for_new p c.args.s c.args.t c.requires.pair v filled lacks ∙ c.requires.room) in omega (arith, n);
     }
 
 pub returns-else-not-is_empty : goal.returns-else-not-is_empty
