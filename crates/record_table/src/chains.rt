@@ -1,6 +1,6 @@
 //! 1,024 records, with the numbers 1 to 1024, linked into chains.
 ghost use Rattle.std.specs.Prelude.{◌≡◌, ℕ, ◌+◌, ◌-◌, ◌<◌, ◌≤◌, Bool, length, get_or, set, replicate, IfSome};
-ghost use Rattle.record_table.specs.Chains.{blank, unused_before, numbered, first_of, first_that, ahead, cut, in_front, LinksLow};
+ghost use Rattle.record_table.specs.Chains.{blank, unused_before, numbered, first_of, first_that, ahead, with_record, cut, in_front, LinksLow};
 
 use access::operation_set::OperationSet;
 use std::array;
@@ -46,19 +46,21 @@ impl Chains {
     {
         let mut heads = [0; 257];
         heads[usize::from(UNUSED)] = 1;
+        // An index below 1,024 fits a `u16`.
         let mut slots = array::from_fn(|index| Record::unused(index as u16 + 2));
         slots[1023] = Record::unused(0);
         Chains { heads, slots }
     }
 
-    /// The number of a chain's first record, or 0.
-    pub(crate) fn first(&self, c: u16) -> u16
-        requires { c ≤ 256 }
-        ensures { result ≡ first_of self.now.heads c }
+    /// The number of the chain's first record, or 0.
+    pub(crate) fn first(&self, chain: u16) -> u16
+        requires { chain ≤ 256 }
+        ensures { result ≡ first_of self.now.heads chain }
     {
-        self.heads[usize::from(c)]
+        self.heads[usize::from(chain)]
     }
 
+    /// The record with this number.
     pub(crate) fn at(&self, number: u16) -> Record
         requires { (1 ≤ number) × (number ≤ 1024) }
         ensures { result ≡ numbered self.now.slots number }
@@ -66,9 +68,10 @@ impl Chains {
         self.slots[usize::from(number - 1)]
     }
 
+    /// Puts another record at this number.
     pub(crate) fn put(&mut self, number: u16, new: Record)
         requires { (1 ≤ number) × (number ≤ 1024) }
-        ensures { self.new ≡ record { heads = self.old.heads; slots = set self.old.slots (number - 1) new } }
+        ensures { self.new ≡ with_record self.old number new }
     {
         self.slots[usize::from(number - 1)] = new;
     }
@@ -94,15 +97,15 @@ impl Chains {
         None
     }
 
-    /// Takes record `i` out of chain `c`.
-    pub(crate) fn unlink(&mut self, c: u16, i: u16)
-        requires places { (c ≤ 256) × ((1 ≤ i) × (i ≤ 1024)) }
-        requires low { (first_of self.old.heads c ≤ 1024) × (LinksLow self.old.slots) }
-        ensures out { self.new ≡ cut (ahead (numbered self.old.slots) i (first_of self.old.heads c)) self.old c (numbered self.old.slots i).next }
-        ensures within { IfSome (ahead (numbered self.old.slots) i (first_of self.old.heads c)) (λ b. (1 ≤ b) × (b ≤ 1024)) }
+    /// Takes record `number` out of chain `chain`.
+    pub(crate) fn unlink(&mut self, chain: u16, number: u16)
+        requires places { (chain ≤ 256) × ((1 ≤ number) × (number ≤ 1024)) }
+        requires low { (first_of self.old.heads chain ≤ 1024) × (LinksLow self.old.slots) }
+        ensures out { self.new ≡ cut (ahead (numbered self.old.slots) number (first_of self.old.heads chain)) self.old chain (numbered self.old.slots number).next }
+        ensures within { IfSome (ahead (numbered self.old.slots) number (first_of self.old.heads chain)) (λ b. (1 ≤ b) × (b ≤ 1024)) }
     {
-        let next = self.at(i).next;
-        match self.find(self.first(c), |record| record.next == i) {
+        let next = self.at(number).next;
+        match self.find(self.first(chain), |record| record.next == number) {
             Some(before) => self.put(
                 before,
                 Record {
@@ -110,24 +113,24 @@ impl Chains {
                     ..self.at(before)
                 },
             ),
-            None => self.heads[usize::from(c)] = next,
+            None => self.heads[usize::from(chain)] = next,
         }
     }
 
-    /// Puts record `i`, which is in no chain, in front of chain `c`.
-    pub(crate) fn push(&mut self, c: u16, i: u16, target: u16, operations: OperationSet)
-        requires { (c ≤ 256) × ((1 ≤ i) × (i ≤ 1024)) }
-        ensures { self.new ≡ in_front self.old c i target operations.bits }
+    /// Puts record `number`, which is in no chain, in front of chain `chain`.
+    pub(crate) fn push(&mut self, chain: u16, number: u16, target: u16, operations: OperationSet)
+        requires { (chain ≤ 256) × ((1 ≤ number) × (number ≤ 1024)) }
+        ensures { self.new ≡ in_front self.old chain number target operations.bits }
     {
-        let next = self.first(c);
+        let next = self.first(chain);
         self.put(
-            i,
+            number,
             Record {
                 target,
                 operations,
                 next,
             },
         );
-        self.heads[usize::from(c)] = i;
+        self.heads[usize::from(chain)] = number;
     }
 }

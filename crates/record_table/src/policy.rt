@@ -20,7 +20,7 @@ impl RecordTable {
         ensures { table_meaning result ≡ empty_table (min (max wished 1) 256) }
     {
         RecordTable {
-            contexts: wished.max(1).min(256),
+            contexts: wished.clamp(1, 256),
             chains: Chains::all_unused(),
         }
     }
@@ -30,34 +30,32 @@ impl RecordTable {
         ensures { TableChained self.now }
     {}
 
-    fn has_both(&self, s: u16, t: u16) -> bool
-        ensures { result ≡ both_inside self.now.contexts s t }
+    /// Whether both are contexts of this table.
+    fn has_both(&self, subject: u16, target: u16) -> bool
+        ensures { result ≡ both_inside self.now.contexts subject target }
     {
-        is_within(self.contexts, s) && is_within(self.contexts, t)
+        is_within(self.contexts, subject) && is_within(self.contexts, target)
     }
 
     /// The number of a pair's record.
-    fn find(&self, s: u16, t: u16) -> Option<u16>
-        requires { s ≤ 256 }
-        ensures { Own self.now s t result }
+    fn find(&self, subject: u16, target: u16) -> Option<u16>
+        requires { subject ≤ 256 }
+        ensures { Own self.now subject target result }
     {
-        self.chains
-            .find(self.chains.first(s), |record| record.target == t)
+        self.chains.find(self.chains.first(subject), |record| record.target == target)
     }
 
     /// Whether a pair whose record is `found` cannot get operations for want of an unused record.
     fn lacks_room(&self, found: Option<u16>, operations: OperationSet) -> bool
-        ensures { (s t : ℕ) → Pair self.now.contexts s t → Own self.now s t found → result ≡ no_room (table_meaning self.now) s t operations.bits }
+        ensures { (subject target : ℕ) → Pair self.now.contexts subject target → Own self.now subject target found → result ≡ no_room (table_meaning self.now) subject target operations.bits }
     {
-        if operations.is_empty() {
-            return false;
-        }
-        match found {
-            Some(_) => false,
-            None => self.chains.first(UNUSED) == 0,
+        match (found, operations.is_empty()) {
+            (None, false) => self.chains.first(UNUSED) == 0,
+            _ => false,
         }
     }
 
+    /// Goes on with other chains.
     fn replace(&mut self, chains: Chains)
         requires { Stands self.old.contexts chains }
         ensures contexts { self.new.contexts ≡ self.old.contexts }
@@ -69,74 +67,66 @@ impl RecordTable {
         };
     }
 
-    /// Replaces the operations of record `i`, which the pair has.
-    fn change(&mut self, s: u16, t: u16, i: u16, operations: OperationSet)
-        requires pair { Pair self.old.contexts s t }
+    /// Replaces the operations of record `number`, which the pair has.
+    fn change(&mut self, subject: u16, target: u16, number: u16, operations: OperationSet)
+        requires pair { Pair self.old.contexts subject target }
         requires some { 1 ≤ operations.bits }
         requires known { operations.bits < 4096 }
-        requires has { Has self.old s t i }
-        ensures { table_meaning self.new ≡ with_set (table_meaning self.old) s t operations.bits }
+        requires has { Has self.old subject target number }
+        ensures { table_meaning self.new ≡ with_set (table_meaning self.old) subject target operations.bits }
     {
         let mut chains = self.chains;
         chains.put(
-            i,
+            number,
             Record {
                 operations,
-                ..chains.at(i)
+                ..chains.at(number)
             },
         );
         self.replace(chains);
     }
 
     /// Gives the pair, which has no record, the first unused one.
-    fn add(&mut self, s: u16, t: u16, operations: OperationSet)
-        requires pair { Pair self.old.contexts s t }
+    fn add(&mut self, subject: u16, target: u16, operations: OperationSet)
+        requires pair { Pair self.old.contexts subject target }
         requires some { 1 ≤ operations.bits }
         requires known { operations.bits < 4096 }
-        requires lacks { Lacks self.old s t }
+        requires lacks { Lacks self.old subject target }
         requires room { 1 ≤ first_of self.old.chains.heads 0 }
-        ensures { table_meaning self.new ≡ with_set (table_meaning self.old) s t operations.bits }
+        ensures { table_meaning self.new ≡ with_set (table_meaning self.old) subject target operations.bits }
     {
         let mut chains = self.chains;
-        let i = chains.first(UNUSED);
-        chains.heads[usize::from(UNUSED)] = chains.at(i).next;
-        chains.push(s, i, t, operations);
+        let number = chains.first(UNUSED);
+        chains.heads[usize::from(UNUSED)] = chains.at(number).next;
+        chains.push(subject, number, target, operations);
         self.replace(chains);
     }
 
-    /// Empties the pair: its record `i` goes back to the unused ones.
-    fn remove(&mut self, s: u16, t: u16, i: u16)
-        requires pair { Pair self.old.contexts s t }
-        requires has { Has self.old s t i }
-        ensures { table_meaning self.new ≡ with_set (table_meaning self.old) s t 0 }
+    /// Empties the pair: its record `number` goes back to the unused ones.
+    fn remove(&mut self, subject: u16, target: u16, number: u16)
+        requires pair { Pair self.old.contexts subject target }
+        requires has { Has self.old subject target number }
+        ensures { table_meaning self.new ≡ with_set (table_meaning self.old) subject target 0 }
     {
         let mut chains = self.chains;
-        chains.unlink(s, i);
-        chains.push(UNUSED, i, 0, OperationSet::none());
+        chains.unlink(subject, number);
+        chains.push(UNUSED, number, 0, OperationSet::none());
         self.replace(chains);
     }
 
     /// Replaces the operations of a pair, whose record is `found`.
-    fn store(&mut self, s: u16, t: u16, found: Option<u16>, operations: OperationSet)
-        requires pair { Pair self.old.contexts s t }
+    fn store(&mut self, subject: u16, target: u16, found: Option<u16>, operations: OperationSet)
+        requires pair { Pair self.old.contexts subject target }
         requires known { operations.bits < 4096 }
-        requires own { Own self.old s t found }
-        requires room { no_room (table_meaning self.old) s t operations.bits ≡ false }
-        ensures { table_meaning self.new ≡ with_set (table_meaning self.old) s t operations.bits }
+        requires own { Own self.old subject target found }
+        requires room { no_room (table_meaning self.old) subject target operations.bits ≡ false }
+        ensures { table_meaning self.new ≡ with_set (table_meaning self.old) subject target operations.bits }
     {
-        match found {
-            Some(i) => {
-                if operations.is_empty() {
-                    self.remove(s, t, i);
-                } else {
-                    self.change(s, t, i, operations);
-                }
-            }
-            None => {
-                if !operations.is_empty() {
-                    self.add(s, t, operations);
-                }
-            }
+        match (found, operations.is_empty()) {
+            (Some(number), true) => self.remove(subject, target, number),
+            (Some(number), false) => self.change(subject, target, number, operations),
+            (None, true) => {}
+            (None, false) => self.add(subject, target, operations),
         }
     }
 }
@@ -159,7 +149,7 @@ impl Policy for RecordTable {
             return OperationSet::none();
         }
         match self.find(subject, target) {
-            Some(i) => self.chains.at(i).operations,
+            Some(number) => self.chains.at(number).operations,
             None => OperationSet::none(),
         }
     }
