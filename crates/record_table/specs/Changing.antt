@@ -8,7 +8,7 @@ use Rattle.record_table.specs.declared.chains.Record.{Record}
 use Rattle.record_table.specs.Chains.{found, with_operations}
 use Rattle.record_table.specs.Laid.{look, Fit, Tidy, held_by, Laid}
 use Rattle.record_table.specs.TableMeaning.{Pair}
-use Rattle.record_table.specs.ChainsLemmas.{upd, linked_same, same_next, look_out, tidy_out, look_put, tidy_put}
+use Rattle.record_table.specs.ChainsLemmas.{upd, linked_same, read_same, look_out, tidy_out, look_put, tidy_put}
 use Rattle.record_table.specs.Layouts.{some_one, held_at, held_some, held_away, Holds, Effect, pairs_after}
 
 module _ (n : ℕ) (first : ℕ → ℕ) (mem : ℕ → Record) (l : Laid n first mem) (s t v i : ℕ) (at : Pair n s t) (v1 : 1 ≤ v) (known : v < 4096) (e : found mem t (first s) ≡ Some i) where
@@ -44,7 +44,7 @@ module _ (n : ℕ) (first : ℕ → ℕ) (mem : ℕ → Record) (l : Laid n firs
     record {
       chains = l.chains;
       owner = l.owner;
-      linked = λ c h. linked_same mem new l.owner (same_next mem i r refl) c (first c) (l.chains c) (l.linked c h);
+      linked = λ c h. linked_same mem new l.owner (read_same mem i r (λ x. x.next) refl) c (first c) (l.chains c) (l.linked c h);
       tidy = λ c low high. ⊎_elim
           (λ q. rw q tidy_there)
           (λ q. tidy_out mem i r n (l.chains c) (held_away n first mem l s t i at e c high q) (l.tidy c low high))

@@ -6,7 +6,7 @@ use Rattle.std.proofs.lemmas.Bool.Decides.{nat_tests}
 use Rattle.record_table.specs.declared.chains.Record.{Record}
 use Rattle.record_table.specs.Chains.{first_that, linked_to}
 use Rattle.record_table.specs.Laid.{Out, In, Linked, look, Tidy}
-use Rattle.record_table.specs.ChainsLemmas.{upd, apart, begins, linked_out, differs}
+use Rattle.record_table.specs.ChainsLemmas.{upd, apart, begins, linked_out, read_same, differs}
 
 -- the list with its first i left out
 abbrev pub without : ℕ → List ℕ → List ℕ
@@ -59,10 +59,10 @@ module _ (mem : ℕ → Record) (b next : ℕ) where
   relinked = upd mem b (linked_to (mem b) next)
 
   same_target : (y : ℕ) → (relinked y).target ≡ (mem y).target
-  same_target y = ⊎_elim (λ q. rw (eq-eqb y b q, q) refl) (λ q. rw (ne_eqb y b q) refl) (cases_eq y b)
+  same_target = read_same mem b (linked_to (mem b) next) (λ x. x.target) refl
 
   same_operations : (y : ℕ) → (relinked y).operations.bits ≡ (mem y).operations.bits
-  same_operations y = ⊎_elim (λ q. rw (eq-eqb y b q, q) refl) (λ q. rw (ne_eqb y b q) refl) (cases_eq y b)
+  same_operations = read_same mem b (linked_to (mem b) next) (λ x. x.operations.bits) refl
 
   pub look_relinked : (t : ℕ) (ys : List ℕ) → look (upd mem b (linked_to (mem b) next)) t ys ≡ look mem t ys
   look_relinked t [] = refl
