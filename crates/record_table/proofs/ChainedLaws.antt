@@ -3,12 +3,12 @@ use Rattle.std.proofs.Common.{◌≡◌, ℕ, zero, suc, ◌≤◌, List, [], �
 use mathlib.Core.Logic.{∥∥₁_elim, ∥∥₁_prop}
 use native.Mathlib.Nat.{ℕ_set}
 use native.Mathlib.Bridge.{le_prop}
-use Rattle.record_table.specs.declared.records.Record.{Record}
+use Rattle.record_table.specs.declared.chains.Record.{Record}
 use Rattle.record_table.specs.declared.table.RecordTable.{RecordTable}
 use Rattle.record_table.specs.Chains.{numbered, first_of}
-use Rattle.record_table.specs.Laid.{In, Linked, look, Fit, Tidy, Laid}
+use Rattle.record_table.specs.Laid.{In, Linked, Fit, Tidy, Laid}
 use Rattle.record_table.specs.Chained.{along, On, InOne, TableChained}
-use Rattle.record_table.specs.ChainsLemmas.{in_owner, look_in}
+use Rattle.record_table.specs.ChainsLemmas.{in_owner, differs}
 
 -- a place in the list is a number of links
 in_along : (mem : ℕ → Record) (owner : ℕ → ℕ) (c h x : ℕ) (ys : List ℕ) → Linked mem owner c h ys → In x ys → (k : ℕ) × (along k mem h ≡ x)
@@ -33,15 +33,11 @@ in_fit n mem x [] k m = absurd m
 in_fit n mem x (y ∷ ys) k (inl e) = rw e k.0
 in_fit n mem x (y ∷ ys) k (inr m) = in_fit n mem x ys k.2 m
 
--- a record has another target than those behind it
-behind : (n : ℕ) (mem : ℕ → Record) (x y : ℕ) (ys : List ℕ) → Tidy n mem (y ∷ ys) → In x ys → (mem y).target ≡ (mem x).target → ⊥
-behind n mem x y ys k m e = let a = look_in n mem x ys k.2 m in let b : look mem (mem x).target ys ≡ 0 = rw e at k.1 in omega arith
-
 same_record : (n : ℕ) (mem : ℕ → Record) (x y : ℕ) (ys : List ℕ) → Tidy n mem ys → In x ys → In y ys → (mem x).target ≡ (mem y).target → x ≡ y
 same_record n mem x y [] k a b e = absurd a
 same_record n mem x y (z ∷ zs) k (inl p) (inl q) e = p ∙ sym q
-same_record n mem x y (z ∷ zs) k (inl p) (inr b) e = absurd (behind n mem y z zs k b (ap (λ (v : ℕ). (mem v).target) (sym p) ∙ e))
-same_record n mem x y (z ∷ zs) k (inr a) (inl q) e = absurd (behind n mem x z zs k a (ap (λ (v : ℕ). (mem v).target) (sym q) ∙ sym e))
+same_record n mem x y (z ∷ zs) k (inl p) (inr b) e = absurd (differs n mem y z zs k b (ap (λ (v : ℕ). (mem v).target) (sym p) ∙ e))
+same_record n mem x y (z ∷ zs) k (inr a) (inl q) e = absurd (differs n mem x z zs k a (ap (λ (v : ℕ). (mem v).target) (sym q) ∙ sym e))
 same_record n mem x y (z ∷ zs) k (inr a) (inr b) e = same_record n mem x y zs k.2 a b e
 
 module _ (n : ℕ) (first : ℕ → ℕ) (mem : ℕ → Record) (none : (mem 0).next ≡ 0) (l : Laid n first mem) where
@@ -75,10 +71,10 @@ table_chained p = record {
     n = p.contexts
 
     first : ℕ → ℕ
-    first = first_of p.heads
+    first = first_of p.chains.heads
 
     mem : ℕ → Record
-    mem = numbered p.records.slots
+    mem = numbered p.chains.slots
 
     fit_prop : (r : Record) → IsProp (Fit n r)
     fit_prop r = λ x y i. (le_prop x.0 y.0 i, le_prop x.1 y.1 i, le_prop x.2 y.2 i, le_prop x.3 y.3 i)

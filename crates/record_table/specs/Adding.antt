@@ -5,18 +5,14 @@ use Rattle.std.proofs.lemmas.Bool.{eq-eqb, ne_eqb}
 use Rattle.std.proofs.lemmas.Bool.Decides.{nat_tests}
 use Rattle.access.specs.Policy.{with_pair}
 use Rattle.access.specs.Sound.{some}
-use Rattle.record_table.specs.declared.records.Record.{Record}
-use Rattle.record_table.specs.Chains.{found}
+use Rattle.record_table.specs.declared.chains.Record.{Record}
+use Rattle.record_table.specs.Chains.{found, entry}
 use Rattle.record_table.specs.Laid.{Out, Linked, look, Tidy, held_by, Laid}
 use Rattle.record_table.specs.TableMeaning.{Pair}
 use Rattle.record_table.specs.ChainsLemmas.{upd, Found, begins, look_out, tidy_out}
 use Rattle.record_table.specs.Unlinking.{without}
 use Rattle.record_table.specs.Layouts.{some_one, find_is, Holds, Effect, pairs_after}
 use Rattle.record_table.specs.Moving.{came, split, taken, out_other, at_from, at_to, at_other, moved, moved_whole}
-
--- a record for a pair, in front of a chain
-abbrev pub entry : ℕ → ℕ → ℕ → Record
-entry t v next = record { target = t; operations = record { bits = v }; next = next }
 
 module _ (n : ℕ) (first : ℕ → ℕ) (mem : ℕ → Record) (l : Laid n first mem) (s t v : ℕ) (at : Pair n s t) (v1 : 1 ≤ v) (known : v < 4096) (room : 1 ≤ first 0) (most : first 0 ≤ 1024) (e : found mem t (first s) ≡ None) where
   abbrev now_first : ℕ → ℕ

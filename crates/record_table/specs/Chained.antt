@@ -1,6 +1,6 @@
 -- The chains of a record table, told by following the links.
 use Rattle.std.specs.Prelude.{◌≡◌, ℕ, zero, suc, ◌≤◌}
-use Rattle.record_table.specs.declared.records.Record.{Record}
+use Rattle.record_table.specs.declared.chains.Record.{Record}
 use Rattle.record_table.specs.Chains.{numbered, first_of}
 use Rattle.record_table.specs.Laid.{Fit}
 use Rattle.record_table.specs.declared.table.RecordTable.{RecordTable}
@@ -27,4 +27,4 @@ pub record Chained (n : ℕ) (first : ℕ → ℕ) (mem : ℕ → Record) : Type
   pub one_record : (c x y : ℕ) → 1 ≤ c → c ≤ n → 1 ≤ x → 1 ≤ y → On first mem c x → On first mem c y → (mem x).target ≡ (mem y).target → x ≡ y
 
 abbrev pub TableChained : RecordTable → Type 0
-TableChained p = Chained p.contexts (first_of p.heads) (numbered p.records.slots)
+TableChained p = Chained p.contexts (first_of p.chains.heads) (numbered p.chains.slots)

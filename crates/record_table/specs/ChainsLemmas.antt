@@ -3,7 +3,7 @@ use Rattle.std.specs.Prelude.{◌≡◌, ℕ, zero, suc, ◌<◌, ◌≤◌, Boo
 use Rattle.std.proofs.Common.{sym, ap, subst, ◌∙◌, inl, inr, ⊎_elim, arith}
 use Rattle.std.proofs.lemmas.Bool.{cases_eq, cases_Bool, eqb-true, eq-eqb, ne_eqb}
 use Rattle.std.proofs.lemmas.Bool.Decides.{nat_tests}
-use Rattle.record_table.specs.declared.records.Record.{Record}
+use Rattle.record_table.specs.declared.chains.Record.{Record}
 use Rattle.record_table.specs.Chains.{first_that}
 use Rattle.record_table.specs.Laid.{Out, In, Linked, look, Fit, Tidy}
 
@@ -44,8 +44,9 @@ pub linked_same : (mem new : ℕ → Record) (owner : ℕ → ℕ) → ((y : ℕ
 linked_same mem new owner same c h [] k = k
 linked_same mem new owner same c h (y ∷ ys) k = (k.0, k.1, k.2, k.3, k.4, rw (same y) (linked_same mem new owner same c (mem y).next ys k.5))
 
-pub same_next : (mem : ℕ → Record) (i : ℕ) (r : Record) → r.next ≡ (mem i).next → (y : ℕ) → (upd mem i r y).next ≡ (mem y).next
-same_next mem i r e y = ⊎_elim (λ q. rw (eq-eqb y i q, q) e) (λ q. rw (ne_eqb y i q) refl) (cases_eq y i)
+-- what is read alike in the new record is read alike in all
+pub read_same : (mem : ℕ → Record) (i : ℕ) (r : Record) (read : Record → ℕ) → read r ≡ read (mem i) → (y : ℕ) → read (upd mem i r y) ≡ read (mem y)
+read_same mem i r read e y = ⊎_elim (λ q. rw (eq-eqb y i q, q) e) (λ q. rw (ne_eqb y i q) refl) (cases_eq y i)
 
 -- a write of a record that is not in the list
 module _ (mem : ℕ → Record) (x : ℕ) (r : Record) where

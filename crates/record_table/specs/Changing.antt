@@ -4,15 +4,12 @@ use Rattle.std.proofs.Common.{⊎_elim, arith}
 use Rattle.std.proofs.lemmas.Bool.{cases_eq, ne_eqb}
 use Rattle.std.proofs.lemmas.Bool.Decides.{nat_tests}
 use Rattle.access.specs.Policy.{with_pair}
-use Rattle.record_table.specs.declared.records.Record.{Record}
-use Rattle.record_table.specs.Chains.{found}
+use Rattle.record_table.specs.declared.chains.Record.{Record}
+use Rattle.record_table.specs.Chains.{found, with_operations}
 use Rattle.record_table.specs.Laid.{look, Fit, Tidy, held_by, Laid}
 use Rattle.record_table.specs.TableMeaning.{Pair}
-use Rattle.record_table.specs.ChainsLemmas.{upd, linked_same, same_next, look_out, tidy_out, look_put, tidy_put}
+use Rattle.record_table.specs.ChainsLemmas.{upd, linked_same, read_same, look_out, tidy_out, look_put, tidy_put}
 use Rattle.record_table.specs.Layouts.{some_one, held_at, held_some, held_away, Holds, Effect, pairs_after}
-
-abbrev pub with_operations : Record → ℕ → Record
-with_operations r v = record { target = r.target; operations = record { bits = v }; next = r.next }
 
 module _ (n : ℕ) (first : ℕ → ℕ) (mem : ℕ → Record) (l : Laid n first mem) (s t v i : ℕ) (at : Pair n s t) (v1 : 1 ≤ v) (known : v < 4096) (e : found mem t (first s) ≡ Some i) where
   abbrev r : Record
@@ -47,7 +44,7 @@ module _ (n : ℕ) (first : ℕ → ℕ) (mem : ℕ → Record) (l : Laid n firs
     record {
       chains = l.chains;
       owner = l.owner;
-      linked = λ c h. linked_same mem new l.owner (same_next mem i r refl) c (first c) (l.chains c) (l.linked c h);
+      linked = λ c h. linked_same mem new l.owner (read_same mem i r (λ x. x.next) refl) c (first c) (l.chains c) (l.linked c h);
       tidy = λ c low high. ⊎_elim
           (λ q. rw q tidy_there)
           (λ q. tidy_out mem i r n (l.chains c) (held_away n first mem l s t i at e c high q) (l.tidy c low high))

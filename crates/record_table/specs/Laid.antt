@@ -2,7 +2,7 @@
 use Rattle.std.specs.Prelude.{◌≡◌, ℕ, ◌+◌, ◌<◌, ◌≤◌, cond, ◌⊎◌, List, [], ◌∷◌, length, ◌==◌, ◌≢◌}
 use Rattle.access.specs.Policy.{Matrix}
 use Rattle.access.specs.Sound.{pairs}
-use Rattle.record_table.specs.declared.records.Record.{Record}
+use Rattle.record_table.specs.declared.chains.Record.{Record}
 
 -- a number is not in a list
 abbrev pub Out : ℕ → List ℕ → Type 0

@@ -8,7 +8,7 @@ use Rattle.access.specs.Contexts.{both_inside}
 use Rattle.access.specs.Sound.{some, row, pairs}
 use Rattle.access.proofs.Pairs.{row_alike, row_with, row_none, row_most, pairs_alike, pairs_with}
 use Rattle.access.proofs.Settings.{pair_inside, pair_parts}
-use Rattle.record_table.specs.declared.records.Record.{Record}
+use Rattle.record_table.specs.declared.chains.Record.{Record}
 use Rattle.record_table.specs.Chains.{found, operations_at}
 use Rattle.record_table.specs.Laid.{Out, look, Tidy, held_by, Laid}
 use Rattle.record_table.specs.TableMeaning.{written_of, Pair}

@@ -2,7 +2,7 @@
 use Rattle.std.specs.Prelude.{◌≡◌, ℕ, ◌≤◌, true, List, ◌∷◌, ◌≢◌, nat_eq, refl}
 use Rattle.std.proofs.Common.{sym, subst, ◌∙◌, inl, inr, ⊎_elim}
 use Rattle.std.proofs.lemmas.Bool.{cases_eq, eq-eqb, ne_eqb}
-use Rattle.record_table.specs.declared.records.Record.{Record}
+use Rattle.record_table.specs.declared.chains.Record.{Record}
 use Rattle.record_table.specs.Laid.{Out, In, Linked}
 use Rattle.record_table.specs.ChainsLemmas.{upd, out_owned, begins, linked_out}
 use Rattle.record_table.specs.Unlinking.{without, without_out, in_without}

@@ -3,24 +3,23 @@ use Rattle.std.specs.Prelude.{◌≡◌, ℕ, suc, ◌≤◌, List, length, Some
 use Rattle.std.proofs.Common.{sym, ap, subst, ◌∙◌, arith}
 use Rattle.std.proofs.lemmas.Bool.{eq-eqb, ne_eqb}
 use Rattle.access.specs.Policy.{with_pair}
-use Rattle.record_table.specs.declared.records.Record.{Record}
-use Rattle.record_table.specs.Chains.{found, ahead}
+use Rattle.record_table.specs.declared.chains.Record.{Record}
+use Rattle.record_table.specs.Chains.{found, ahead, linked_to, entry}
 use Rattle.record_table.specs.Laid.{In, Linked, look, Tidy, held_by, Laid}
 use Rattle.record_table.specs.TableMeaning.{Pair}
 use Rattle.record_table.specs.ChainsLemmas.{upd, in_owner, out_owned, linked_out, look_out, tidy_out}
-use Rattle.record_table.specs.Unlinking.{without, without_out, look_without, tidy_without, linked_as, look_relinked, tidy_relinked, Cut, cut_is}
+use Rattle.record_table.specs.Unlinking.{without, without_out, look_without, tidy_without, look_relinked, tidy_relinked, Cut, cut_is}
 use Rattle.record_table.specs.Layouts.{some_one, chain_short, held_at, held_some, held_first, held_away, Holds, Effect, pairs_after}
 use Rattle.record_table.specs.Moving.{Links, left, came, split, taken, at_from, at_to, at_other, moved, moved_whole}
-use Rattle.record_table.specs.Adding.{entry}
 
 -- the functions after a record left a chain
 abbrev pub cut_first : Option ℕ → (ℕ → ℕ) → ℕ → ℕ → ℕ → ℕ
 cut_first None first c next = upd first c next
 cut_first (Some b) first c next = first
 
-abbrev pub cut_mem : Option ℕ → (ℕ → Record) → Record → ℕ → Record
-cut_mem None mem gone = mem
-cut_mem (Some b) mem gone = upd mem b (linked_as (mem b) gone)
+abbrev pub cut_mem : Option ℕ → (ℕ → Record) → ℕ → ℕ → Record
+cut_mem None mem next = mem
+cut_mem (Some b) mem next = upd mem b (linked_to (mem b) next)
 
 module _ (n : ℕ) (first : ℕ → ℕ) (mem : ℕ → Record) (l : Laid n first mem) (s t i : ℕ) (at : Pair n s t) (i1 : 1 ≤ i) (most : i ≤ 1024) (e : found mem t (first s) ≡ Some i) where
   held_in : In i (l.chains s)
@@ -81,17 +80,17 @@ module _ (n : ℕ) (first : ℕ → ℕ) (mem : ℕ → Record) (l : Laid n firs
     )
 
   -- taken out behind a record b
-  cut_links : (b : ℕ) → Cut mem l.owner s (first s) i (l.chains s) (Some b) → Links n first (upd mem b (linked_as (mem b) (mem i))) l.owner (left l.chains s i)
-  cut_links b cut = split (λ c. c ≤ n → Linked (upd mem b (linked_as (mem b) (mem i))) l.owner c (first c) (left l.chains s i c)) s
+  cut_links : (b : ℕ) → Cut mem l.owner s (first s) i (l.chains s) (Some b) → Links n first (upd mem b (linked_to (mem b) (mem i).next)) l.owner (left l.chains s i)
+  cut_links b cut = split (λ c. c ≤ n → Linked (upd mem b (linked_to (mem b) (mem i).next)) l.owner c (first c) (left l.chains s i c)) s
       (λ h. rw (eq-eqb s s refl) cut.2)
-      (λ c q h. rw (ne_eqb c s q) (linked_out mem b (linked_as (mem b) (mem i)) l.owner l.owner (λ y _. refl) c (first c) (l.chains c)
+      (λ c q h. rw (ne_eqb c s q) (linked_out mem b (linked_to (mem b) (mem i).next) l.owner l.owner (λ y _. refl) c (first c) (l.chains c)
       (out_owned mem l.owner c (first c) b (l.chains c) (l.linked c h) (λ z. q (sym z ∙ in_owner mem l.owner s (first s) b (l.chains s) (l.linked s at.1) cut.0))) (l.linked c h)))
 
-  by_cut : (o : Option ℕ) → Cut mem l.owner s (first s) i (l.chains s) o → Effect n first mem l s t 0 (upd (cut_first o first s (mem i).next) 0 i) (upd (cut_mem o mem (mem i)) i (entry 0 0 (cut_first o first s (mem i).next 0)))
+  by_cut : (o : Option ℕ) → Cut mem l.owner s (first s) i (l.chains s) o → Effect n first mem l s t 0 (upd (cut_first o first s (mem i).next) 0 i) (upd (cut_mem o mem (mem i).next) i (entry 0 0 (cut_first o first s (mem i).next 0)))
   by_cut None cut =
       let q : first s ≡ i = cut held_in in
       put_back (upd first s (mem i).next) mem (subst (λ (x : ℕ). Links n (upd first s (mem x).next) mem l.owner (left l.chains s x)) q (taken n first mem l.owner l.chains l.linked s at.1 (held_first n first mem l s t i at e))) (λ y ys. refl) (λ ys k. k)
-  by_cut (Some b) cut = put_back first (upd mem b (linked_as (mem b) (mem i))) (cut_links b cut) (look_relinked mem b (mem i)) (tidy_relinked mem b (mem i) n)
+  by_cut (Some b) cut = put_back first (upd mem b (linked_to (mem b) (mem i).next)) (cut_links b cut) (look_relinked mem b (mem i).next) (tidy_relinked mem b (mem i).next n)
 
-  pub removed : Effect n first mem l s t 0 (upd (cut_first (ahead mem i (first s)) first s (mem i).next) 0 i) (upd (cut_mem (ahead mem i (first s)) mem (mem i)) i (entry 0 0 (cut_first (ahead mem i (first s)) first s (mem i).next 0)))
+  pub removed : Effect n first mem l s t 0 (upd (cut_first (ahead mem i (first s)) first s (mem i).next) 0 i) (upd (cut_mem (ahead mem i (first s)) mem (mem i).next) i (entry 0 0 (cut_first (ahead mem i (first s)) first s (mem i).next 0)))
   removed = by_cut (ahead mem i (first s)) (cut_is mem l.owner s i i1 1024 (first s) (l.chains s) (chain_short n first mem l s at.0 at.1) (l.linked s at.1))

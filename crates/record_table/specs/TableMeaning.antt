@@ -4,12 +4,12 @@ use Rattle.access.specs.Operations.{set_of, any_op}
 use Rattle.access.specs.Policy.{Matrix, Meaning}
 use Rattle.access.specs.Contexts.{both_inside}
 use Rattle.record_table.specs.Chains.{numbered, first_of, found, operations_at}
-use Rattle.record_table.specs.declared.records.Record.{Record}
+use Rattle.record_table.specs.declared.chains.Record.{Record}
 use Rattle.record_table.specs.declared.table.RecordTable.{RecordTable}
 
 -- the record of a pair
 abbrev pub held : RecordTable → ℕ → ℕ → Option ℕ
-held p s t = found (numbered p.records.slots) t (first_of p.heads s)
+held p s t = found (numbered p.chains.slots) t (first_of p.chains.heads s)
 
 abbrev pub written_of : ℕ → (ℕ → ℕ) → (ℕ → Record) → Matrix
 written_of n first mem s t = cond (both_inside n s t) (operations_at mem (found mem t (first s))) 0
@@ -27,7 +27,7 @@ chain_meaning n first mem = record {
 }
 
 abbrev pub table_meaning : RecordTable → Meaning
-table_meaning p = chain_meaning p.contexts (first_of p.heads) (numbered p.records.slots)
+table_meaning p = chain_meaning p.contexts (first_of p.chains.heads) (numbered p.chains.slots)
 
 -- a table with no pair
 abbrev pub empty_table : ℕ → Meaning

@@ -3,10 +3,10 @@ use Rattle.std.specs.Prelude.{◌≡◌, ℕ, zero, suc, ◌≤◌, Bool, true, 
 use Rattle.std.proofs.Common.{sym, ap, subst, ◌∙◌, inl, inr, ⊎_elim, arith}
 use Rattle.std.proofs.lemmas.Bool.{cases_eq, cases_Bool, eq-eqb, ne_eqb}
 use Rattle.std.proofs.lemmas.Bool.Decides.{nat_tests}
-use Rattle.record_table.specs.declared.records.Record.{Record}
-use Rattle.record_table.specs.Chains.{first_that}
+use Rattle.record_table.specs.declared.chains.Record.{Record}
+use Rattle.record_table.specs.Chains.{first_that, linked_to}
 use Rattle.record_table.specs.Laid.{Out, In, Linked, look, Tidy}
-use Rattle.record_table.specs.ChainsLemmas.{upd, apart, begins, linked_out, differs}
+use Rattle.record_table.specs.ChainsLemmas.{upd, apart, begins, linked_out, read_same, differs}
 
 -- the list with its first i left out
 abbrev pub without : ℕ → List ℕ → List ℕ
@@ -54,31 +54,28 @@ module _ (n : ℕ) (mem : ℕ → Record) (i : ℕ) where
   tidy_without (z ∷ zs) k = ⊎_elim (λ q. rw q k.2) (λ q. rw q (k.0, none_without (mem z).target zs k.2 k.1, tidy_without zs k.2)) (cases_Bool (z == i))
 
 -- a record that only gets another next one holds the same
-abbrev pub linked_as : Record → Record → Record
-linked_as r gone = record { target = r.target; operations = r.operations; next = gone.next }
-
-module _ (mem : ℕ → Record) (b : ℕ) (gone : Record) where
+module _ (mem : ℕ → Record) (b next : ℕ) where
   abbrev relinked : ℕ → Record
-  relinked = upd mem b (linked_as (mem b) gone)
+  relinked = upd mem b (linked_to (mem b) next)
 
   same_target : (y : ℕ) → (relinked y).target ≡ (mem y).target
-  same_target y = ⊎_elim (λ q. rw (eq-eqb y b q, q) refl) (λ q. rw (ne_eqb y b q) refl) (cases_eq y b)
+  same_target = read_same mem b (linked_to (mem b) next) (λ x. x.target) refl
 
   same_operations : (y : ℕ) → (relinked y).operations.bits ≡ (mem y).operations.bits
-  same_operations y = ⊎_elim (λ q. rw (eq-eqb y b q, q) refl) (λ q. rw (ne_eqb y b q) refl) (cases_eq y b)
+  same_operations = read_same mem b (linked_to (mem b) next) (λ x. x.operations.bits) refl
 
-  pub look_relinked : (t : ℕ) (ys : List ℕ) → look (upd mem b (linked_as (mem b) gone)) t ys ≡ look mem t ys
+  pub look_relinked : (t : ℕ) (ys : List ℕ) → look (upd mem b (linked_to (mem b) next)) t ys ≡ look mem t ys
   look_relinked t [] = refl
   look_relinked t (z ∷ zs) = rw (same_target z, same_operations z, look_relinked t zs) refl
 
-  pub tidy_relinked : (n : ℕ) (ys : List ℕ) → Tidy n mem ys → Tidy n (upd mem b (linked_as (mem b) gone)) ys
+  pub tidy_relinked : (n : ℕ) (ys : List ℕ) → Tidy n mem ys → Tidy n (upd mem b (linked_to (mem b) next)) ys
   tidy_relinked n [] k = tt
   tidy_relinked n (z ∷ zs) k = rw (same_target z, same_operations z) (k.0, look_relinked (mem z).target zs ∙ k.1, tidy_relinked n zs k.2)
 
 -- the record before i is linked to the one behind i: the chain goes on without i. Where there is no record before it, i is the first
 abbrev pub Cut : (ℕ → Record) → (ℕ → ℕ) → ℕ → ℕ → ℕ → List ℕ → Option ℕ → Type 0
 Cut mem owner c h i ys None = In i ys → h ≡ i
-Cut mem owner c h i ys (Some b) = In b ys × In i ys × Linked (upd mem b (linked_as (mem b) (mem i))) owner c h (without i ys)
+Cut mem owner c h i ys (Some b) = In b ys × In i ys × Linked (upd mem b (linked_to (mem b) (mem i).next)) owner c h (without i ys)
 
 module _ (mem : ℕ → Record) (owner : ℕ → ℕ) (c i : ℕ) (i1 : 1 ≤ i) where
   cut_here : (h z : ℕ) (zs : List ℕ) → Linked mem owner c h (z ∷ zs) → (mem z).next ≡ i → Cut mem owner c h i (z ∷ zs) (Some z)
@@ -96,14 +93,14 @@ module _ (mem : ℕ → Record) (owner : ℕ → ℕ) (c i : ℕ) (i1 : 1 ≤ i)
       out : Out z (i ∷ ws.0)
       out = subst (Out z) ws.1 l.4
 
-      goes : Linked (upd mem z (linked_as (mem z) (mem i))) owner c (mem i).next ws.0
-      goes = linked_out mem z (linked_as (mem z) (mem i)) owner owner (λ y _. refl) c (mem i).next ws.0 out.1 on.5
+      goes : Linked (upd mem z (linked_to (mem z) (mem i).next)) owner c (mem i).next ws.0
+      goes = linked_out mem z (linked_to (mem z) (mem i).next) owner owner (λ y _. refl) c (mem i).next ws.0 out.1 on.5
 
       is_rest : without i (z ∷ zs) ≡ z ∷ ws.0
       is_rest = ap (λ (vs : List ℕ). without i (z ∷ vs)) ws.1 ∙ rw (ne_eqb z i (λ q. out.0 (sym q)), eq-eqb i i refl) refl
 
-      goal : Linked (upd mem z (linked_as (mem z) (mem i))) owner c h (without i (z ∷ zs))
-      goal = subst (Linked (upd mem z (linked_as (mem z) (mem i))) owner c h) (sym is_rest) (l.0, l.1, l.2, l.3, out.1, rw (eq-eqb z z refl) goes)
+      goal : Linked (upd mem z (linked_to (mem z) (mem i).next)) owner c h (without i (z ∷ zs))
+      goal = subst (Linked (upd mem z (linked_to (mem z) (mem i).next)) owner c h) (sym is_rest) (l.0, l.1, l.2, l.3, out.1, rw (eq-eqb z z refl) goes)
 
   cut_later : (h z : ℕ) (zs : List ℕ) (o : Option ℕ) → Linked mem owner c h (z ∷ zs) → ((mem z).next ≢ i) → Cut mem owner c (mem z).next i zs o → Cut mem owner c h i (z ∷ zs) o
   cut_later h z zs None l ne f = at_first

@@ -2,6 +2,6 @@
 
 #![tactic(auto)]
 
+pub mod chains;
 pub mod policy;
-pub mod records;
 pub mod table;

@@ -7,16 +7,15 @@ use Rattle.record_table.proofs.table.RecordTable.new.Goals as goal
 
 pub invariant_of-result : goal.invariant_of-result
 invariant_of-result c =
-    let e = c.linked-records.ensures in
-    let n = c.min-contexts.result in
-    let slots = c.linked-records.result.slots in
-    let a = fresh_arrays n slots e.all e.links e.last in
-    record { sizes = (search rules, search rules, a.heads_size, a.slots_size); firsts = a.firsts; links = a.links; laid = ∣ fresh_laid n slots e.all e.links e.last ∣₁ }
+    let e = c.all_unused.ensures in
+    let n = c.clamp.result in
+    let a = fresh_arrays n c.all_unused.result e.heads e.all e.links e.last in
+    record { sizes = (search rules, search rules, a.heads_size, a.slots_size); firsts = a.firsts; links = a.links; laid = ∣ fresh_laid n c.all_unused.result e.heads e.all e.links e.last ∣₁ }
 
 pub returns : goal.returns
 returns c =
-    let e = c.linked-records.ensures in
-    let n = c.min-contexts.result in
+    let e = c.all_unused.ensures in
+    let n = c.clamp.result in
     let n_is : n ≡ min (max c.args.wished 1) 256 = search rules in
-    let none = fresh_written n c.linked-records.result.slots e.all e.links e.last in
+    let none = fresh_written n c.all_unused.result e.heads e.all e.links e.last in
     ap (λ (w : Matrix). with_written (empty_table n) w) (fun_ext (λ s. fun_ext (λ t. none s t))) ∙ ap empty_table n_is
