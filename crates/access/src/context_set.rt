@@ -4,7 +4,7 @@ ghost use Rattle.access.specs.Operations.{has as has_bit};
 ghost use Rattle.access.specs.Contexts.{inside, member, has_above, empty, meet};
 
 /// A mark for each context from 1 to 256. Context c is bit (c - 1) % 64 of word (c - 1) / 64.
-#[derive(Clone, Copy)]
+#[derive(Clone, Copy, Debug, PartialEq, Eq)]
 pub struct ContextSet {
     words: [u64; 4],
 }

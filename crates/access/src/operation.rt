@@ -14,7 +14,7 @@ pub enum Kind {
 }
 
 /// An operation that a subject may do on a target. Its number is its place in this list, from 0.
-#[derive(Clone, Copy)]
+#[derive(Clone, Copy, Debug, PartialEq, Eq)]
 pub enum Operation {
     Read,
     Write,
