@@ -1,8 +1,7 @@
 //! A table with a place for one entry under each number from 1 to N.
-ghost use Rattle.std.specs.Prelude.{◌≡◌, is_some, None};
+ghost use Rattle.std.specs.Prelude.{◌≡◌, length, is_some, None};
 ghost use Rattle.access.specs.Refusals.{answer, when_accepted};
 ghost use Rattle.entries.specs.Entries.{put, put_within, listed, in_order};
-ghost use Rattle.entries.specs.Held.{held};
 ghost use Rattle.entries.specs.Standing.{entry_at, entering_refusal, striking_refusal};
 
 use access::numbers::index_in;
@@ -11,21 +10,12 @@ use access::refusal::Refusal;
 #[derive(Drop)]
 pub struct Table<E, const N: usize> {
     entries: [Option<E>; N],
-}
-
-/// An array of entries, which is the list of them in order. Read as a slice it tells its length to the proof.
-fn ordered<E: Copy, const N: usize>(entries: &[Option<E>; N]) -> &[Option<E>; N]
-    ensures same { result.now ≡ entries.now }
-    ensures ordered { result.now ≡ in_order (listed N entries.now) 0 N }
-{
-    let list: &[Option<E>] = entries;
-    if list.len() != N {
-        unreachable()
-    }
-    entries
+    ghost sized: { length entries ≡ N },
 }
 
 impl<E: Copy, const N: usize> Table<E, N> {
+    ghost use Rattle.entries.specs.Held.{held};
+
     pub fn new() -> Table<E, N>
         ensures { held result ≡ (λ k. None) }
     {
@@ -71,7 +61,7 @@ impl<E: Copy, const N: usize> Table<E, N> {
         ensures listed { listed N result.now ≡ held self.now }
         ensures ordered { result.now ≡ in_order (held self.now) 0 N }
     {
-        ordered(&self.entries)
+        &self.entries
     }
 
     /// Replaces the entry under a number from 1 to N; another number changes nothing.
