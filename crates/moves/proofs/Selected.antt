@@ -1,9 +1,9 @@
 -- Sets that hold just the possible operations of some kinds, and what their lowest operation shows.
-use Rattle.std.proofs.Common.{◌≡◌, ℕ, ◌<◌, Bool, true, false, not, ◌&&◌, T, eqb, ltb, [], ◌∷◌, Some, None, Option, sym, ap, ◌∙◌, subst, subst₂, inl, inr, ⊎_elim, arith, eqb→eq, T_not, MatchOption}
+use Rattle.std.proofs.Common.{◌≡◌, ℕ, ◌<◌, Bool, true, false, not, ◌&&◌, T, eqb, ltb, [], ◌∷◌, Some, None, Option, sym, refl, ap, ◌∙◌, subst, subst₂, inl, inr, ⊎_elim, arith, eqb→eq, T_not, MatchOption}
 use lib.Bits.{bit_and}
 use lib.Dec.{not_T}
 use Rattle.std.proofs.lemmas.Bool.Decides.{nat_tests}
-use Rattle.std.specs.Option.{option_or}
+use Rattle.std.specs.Option.{option_or, IsSome}
 use Rattle.access.specs.Operations.{Lowest, LacksAll, number_of, kind_of, has, set_of, read_op, write_op, any_op}
 use Rattle.access.specs.declared.operation.Kind.{Kind}
 use Rattle.access.specs.declared.operation.Kind.TheVariants.{Neither}
@@ -22,7 +22,7 @@ use Rattle.verdicts.proofs.Lowest.{lowest_in}
 use Rattle.verdicts.proofs.Inside.{sound_twelve}
 use Rattle.moves.specs.declared.step.Step.{Step}
 use Rattle.moves.specs.Grants.{doing}
-use Rattle.moves.specs.Moved.{stepped, NoneMakes, ShownAs, LowestOf}
+use Rattle.moves.specs.Moved.{stepped, ShownAs, LowestOf}
 
 -- the operations of some kinds
 abbrev pub of_kinds : (Kind → Bool) → ℕ
@@ -111,5 +111,6 @@ module _ (m : Meaning) (gs : Grants) where
   shown_transfer g k None (Some step) h l = (inr (h, l.0), l.1)
 
   -- a move that can be made is shown
-  pub makeable_shown : (v : Move) → T (makeable m gs v) → NoneMakes m gs v → ⊥
-  makeable_shown v h n = let d = makeable_done m gs v h in n d.interaction d.makes ((reduction m gs (d.interaction ∷ [])).1 (d.can, tt))
+  pub makeable_shown : (v : Move) → T (makeable m gs v) → (r : Option Step) → ShownAs m gs v r → IsSome r
+  makeable_shown v h None n = let d = makeable_done m gs v h in absurd (n d.interaction d.makes ((reduction m gs (d.interaction ∷ [])).1 (d.can, tt)))
+  makeable_shown v h (Some step) shown = refl

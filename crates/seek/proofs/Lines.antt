@@ -12,6 +12,15 @@ use Rattle.verdicts.specs.Searches.{Search}
 use Rattle.seek.specs.Plan.{plan, up, line}
 use Rattle.activities.specs.Traced.{Turned}
 
+-- `here` is the place at depth `left` on the way to the place `last`
+pub record Climb (ps : List Place) (last here left : ℕ) : Type 0 where
+  pub below : here ≤ last
+  pub within : left ≤ (at ps last).depth
+  pub place : here ≡ up ps last ((at ps last).depth - left)
+
+pub climb_start : (ps : List Place) (last left : ℕ) → left ≡ (at ps last).depth → Climb ps last last left
+climb_start ps last left e = let z : 0 ≡ (at ps last).depth - left = omega arith in record { below = omega arith; within = omega arith; place = ap (up ps last) z }
+
 module _ (p : Problem) (ps : List Place) (last : ℕ) (f : Found p ps last) where
   abbrev k : ℕ
   k = (at ps last).depth
@@ -42,15 +51,26 @@ module _ (p : Problem) (ps : List Place) (last : ℕ) (f : Found p ps last) wher
   ends = let e : 0 ≡ k - k = omega arith in subst (λ j. p.target (at ps (up ps last j)).node ≡ true) e f.target
 
   -- one place back
-  pub back : (here left : ℕ) → 0 < left → left ≤ k → here ≡ up ps last (k - left) → (here ≤ last) × ((at ps here).parent ≡ up ps last (k - (left - 1))) × ((at ps here).node ≡ line ps last (suc (left - 1))) × ((at ps (at ps here).parent).node ≡ line ps last (left - 1)) × ((at ps here).parent < here)
-  back here left pos l e =
+  pub record Back (here left : ℕ) : Type 0 where
+    pub climb : Climb ps last (at ps here).parent (left - 1)
+    pub earlier : (at ps here).parent < here
+    pub node : (at ps here).node ≡ line ps last (suc (left - 1))
+    pub before : (at ps (at ps here).parent).node ≡ line ps last (left - 1)
+
+  pub back : {here left : ℕ} → Climb ps last here left → 0 < left → Back here left
+  back {here} {left} c pos =
       let r = climbed (k - left) (omega arith) in
-      let g : suc (k - left) ≡ k - (left - 1) = omega arith in
+      let g : suc (k - left) ≡ k - (left - 1) = omega (arith, c.within) in
       let g' : left ≡ suc (left - 1) = omega arith in
-      let b : here ≤ last = omega (arith, r.0) in
-      let deep : 0 < (at ps here).depth = subst (λ x. 0 < (at ps x).depth) (sym e) (omega arith) in
-      let q : (at ps here).parent ≡ up ps last (k - (left - 1)) = ap (λ x. (at ps x).parent) e ∙ ap (up ps last) g in
-      (b, q, ap (λ x. (at ps x).node) e ∙ ap (line ps last) g', ap (λ x. (at ps x).node) q, (f.sound here b).earlier deep)
+      let deep : 0 < (at ps here).depth = subst (λ x. 0 < (at ps x).depth) (sym c.place) (omega (arith, c.within)) in
+      let earlier = (f.sound here c.below).earlier deep in
+      let q : (at ps here).parent ≡ up ps last (k - (left - 1)) = ap (λ x. (at ps x).parent) c.place ∙ ap (up ps last) g in
+      record {
+        climb = record { below = omega (arith, earlier, c.below); within = omega (arith, c.within); place = q };
+        earlier = earlier;
+        node = ap (λ x. (at ps x).node) c.place ∙ ap (line ps last) g';
+        before = ap (λ x. (at ps x).node) q;
+      }
 
 -- in the graph of an activity phases rise along the way
 module _ (kind : Search) (m : Meaning) (gs : Grants) (A B : ℕ → Bool) (l : SoundMeaning m) (ps : List Place) (last : ℕ) (f : Found (plan kind m gs A B) ps last) where

@@ -1,7 +1,8 @@
 -- What a search over the graph of an activity says of activities.
-use Rattle.std.proofs.Common.{◌≡◌, ℕ, suc, ◌*◌, ◌<◌, ◌≤◌, Bool, true, T, List, length, drop, sym, subst, arith}
+use Rattle.std.proofs.Common.{◌≡◌, ℕ, suc, ◌*◌, ◌<◌, ◌≤◌, Bool, true, T, List, Ok, Option, Result, length, drop, sym, subst, arith}
 use Rattle.std.proofs.lemmas.Bool.{and_parts}
-use Rattle.access.specs.Contexts.{inside}
+use Rattle.access.specs.Contexts.{inside, member}
+use Rattle.access.specs.declared.context_set.ContextSet.{ContextSet}
 use Rattle.access.specs.Policy.{Meaning}
 use Rattle.access.specs.Sound.{Sound}
 use Rattle.access.proofs.Tests.{both_parts}
@@ -10,8 +11,11 @@ use Rattle.verdicts.specs.Activities.{Move}
 use Rattle.verdicts.specs.Searches.{Search}
 use Rattle.search.specs.Problem.{Problem, Way, Nowhere}
 use Rattle.search.specs.Problem.Walk.{stay, step}
-use Rattle.search.specs.Queue.{at, Found as FoundPlace}
+use Rattle.search.specs.Queue.{at, Found as FoundPlace, Answered, Fits, Outcome}
+use Rattle.search.specs.declared.TooShort.{TooShort}
 use Rattle.search.specs.declared.Place.{Place}
+use Rattle.moves.specs.Regimes.{meaning_of, grants_of}
+use Rattle.moves.specs.declared.regime.Regime.{Regime}
 use Rattle.moves.specs.declared.step.Step.{Step}
 use Rattle.activities.specs.Kinds.{KindLaws}
 use Rattle.activities.specs.Nodes.{edge, source}
@@ -20,9 +24,19 @@ use Rattle.activities.specs.Found.{Leads, NoneRealised, Found, Shortest}
 use Rattle.activities.proofs.Reached.{none_reached, least_reached, path_shortest}
 use Rattle.activities.proofs.Tracing.{traced_found}
 use Rattle.seek.specs.Plan.{among, plan, line}
+use Rattle.seek.specs.Charts.{problem_of}
+use Rattle.seek.specs.declared.chart.Chart.{Chart}
 use Rattle.seek.proofs.Lines.{inside as inside_line, joins, begins, ends}
 use Rattle.seek.proofs.Charted.{few_edges}
 use Rattle.activities.proofs.Rests.{same_rest}
+
+-- what a search over a chart answered, if it was not refused
+pub told : {X P : Type 0} (kind : Search) (meaning : P → Meaning) (chart : Chart X P) {r : Regime P} {from to : ContextSet} → chart.regime.now ≡ r → chart.from ≡ from → chart.to ≡ to
+    → {ts : List ℕ} {ps : List Place} (ps' : List Place) (found : Option ℕ) {result : Result (Option ℕ) TooShort} → result ≡ Ok found → Answered (problem_of kind meaning chart) ts ps ps' result
+    → Fits (plan kind (meaning_of meaning r) (grants_of r) (member from) (member to)) ts ps × Outcome (plan kind (meaning_of meaning r) (grants_of r) (member from) (member to)) ps' found
+told kind meaning chart {r} {from} {to} is starts leads {ts} {ps} ps' found e a =
+    let p : problem_of kind meaning chart ≡ plan kind (meaning_of meaning r) (grants_of r) (member from) (member to) = cc in
+    subst (λ x. Fits x ts ps × Outcome x ps' found) p (subst (Answered (problem_of kind meaning chart) ts ps ps') e a)
 
 module _ (m : Meaning) (gs : Grants) (l : Sound m) {kind : Search} {back : Bool} {activities : ℕ → ℕ → List Move → Type 0} (laws : KindLaws kind back activities) (A B : ℕ → Bool) where
   abbrev n : ℕ

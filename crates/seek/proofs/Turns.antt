@@ -1,69 +1,90 @@
 -- The two loops that go back over the places.
-use Rattle.std.proofs.Common.{◌≡◌, ℕ, suc, ◌+◌, ◌-◌, ◌/◌, ◌<◌, ◌≤◌, Bool, true, List, length, set, sym, ap, ◌∙◌, subst, subst₂, inr, ⊎_elim, arith}
+use Rattle.std.proofs.Common.{◌≡◌, ℕ, suc, ◌+◌, ◌-◌, ◌<◌, ◌≤◌, Bool, true, List, length, set, sym, ap, ◌∙◌, subst, subst₂, ◌⊎◌, inl, inr, ⊎_elim, arith}
 use Rattle.std.proofs.lemmas.Bool.{cases_eq}
-use Rattle.search.specs.Problem.{Problem}
-use Rattle.search.specs.Queue.{at, Found}
+use Rattle.search.specs.Queue.{at}
 use Rattle.search.specs.declared.Place.{Place}
+use Rattle.access.specs.Contexts.{member}
 use Rattle.access.specs.Policy.{Meaning}
 use Rattle.access.specs.Sound.{Sound as SoundMeaning}
 use Rattle.verdicts.specs.Runs.{Grants}
 use Rattle.verdicts.specs.Searches.{Search}
+use Rattle.moves.specs.Regimes.{meaning_of, grants_of}
 use Rattle.moves.specs.declared.step.Step.{Step}
-use Rattle.seek.specs.Plan.{plan, up, line}
-use Rattle.activities.specs.Nodes.{move_of, slot}
+use Rattle.seek.specs.Plan.{line}
+use Rattle.seek.specs.Charts.{FoundOn}
+use Rattle.seek.specs.declared.chart.Chart.{Chart}
+use Rattle.activities.specs.Nodes.{phase, edge, move_of, slot}
 use Rattle.activities.specs.Traced.{Turned, Shows, ShownFrom, SameFrom}
-use Rattle.seek.proofs.Lines.{back, joins, turned}
+use Rattle.seek.proofs.Lines.{Climb, back, joins, turned}
 use Rattle.activities.proofs.Slots.{shown_more, same_more}
 
-module _ (kind : Search) (m : Meaning) (gs : Grants) (A B : ℕ → Bool) (ps : List Place) (last : ℕ) (f : Found (plan kind m gs A B) ps last) (here left : ℕ) where
-  abbrev p : Problem
-  p = plan kind m gs A B
+-- from the place `here`, at depth `left`, on the way is in the last phase
+pub record Turning (kind : Search) (n : ℕ) (ps : List Place) (last here left : ℕ) : Type 0 where
+  pub climb : Climb ps last here left
+  pub late : (d : ℕ) → left ≤ d → d < (at ps last).depth → suc (phase n (line ps last (suc d))) ≡ kind.phases
+
+module _ {X P : Type 0} (kind : Search) (meaning : P → Meaning) (chart : Chart X P) (ps : List Place) (last : ℕ) (f : FoundOn kind meaning chart ps last) where
+  abbrev m : Meaning
+  m = meaning_of meaning chart.regime.now
+
+  abbrev gs : Grants
+  gs = grants_of chart.regime.now
+
+  abbrev n : ℕ
+  n = m.contexts
 
   abbrev k : ℕ
   k = (at ps last).depth
 
-  abbrev Late : ℕ → ℕ → ℕ → Type 0
-  Late n phases t = (d : ℕ) → t ≤ d → d < k → suc (line ps last (suc d) / n) ≡ phases
+  abbrev Node : ℕ → ℕ
+  Node place = (at ps place).node
 
-  pub turn_again : (n phases : ℕ) → 0 < left → (here ≤ last) × (left ≤ k) × (here ≡ up ps last (k - left)) × Late n phases left → (at ps here).node / n + 1 ≡ phases → ((at ps here).parent ≤ last) × (left - 1 ≤ k) × ((at ps here).parent ≡ up ps last (k - (left - 1))) × Late n phases (left - 1)
-  turn_again n phases pos inv test =
-      let b = back p ps last f here left pos inv.1 inv.2 in
-      let one : suc ((at ps here).node / n) ≡ phases = omega arith in (
-        omega (arith, b.4, inv.0),
-        omega (arith, inv.1),
-        b.1,
-        λ d l h.
+  pub turn_again : (here left : ℕ) → Turning kind n ps last here left → 0 < left → phase n (Node here) + 1 ≡ kind.phases → (next : ℕ) → next ≡ (at ps here).parent → Turning kind n ps last next (left - 1)
+  turn_again here left t pos test next e =
+      let b = back _ ps last f t.climb pos in
+      record {
+        climb = subst (λ x. Climb ps last x (left - 1)) (sym e) b.climb;
+        late = λ d l h.
             ⊎_elim
-            (λ (q : d ≡ left - 1). subst (λ j. suc (line ps last (suc j) / n) ≡ phases) (sym q) (subst (λ x. suc (x / n) ≡ phases) b.2 one))
-            (λ (q : d ≡ left - 1 → ⊥). inv.3 d (omega arith) h)
-            (cases_eq d (left - 1)),
-      )
+            (λ (q : d ≡ left - 1). subst (λ j. suc (phase n (line ps last (suc j))) ≡ kind.phases) (sym q) (subst (λ x. suc (phase n x) ≡ kind.phases) b.node (omega arith)))
+            (λ (q : d ≡ left - 1 → ⊥). t.late d (omega arith) h)
+            (cases_eq d (left - 1));
+      }
 
-  pub turn_done : SoundMeaning m → (n phases : ℕ) → n ≡ m.contexts → phases ≡ kind.phases → (here ≤ last) × (left ≤ k) × (here ≡ up ps last (k - left)) × Late n phases left → ((at ps here).node / n + 1 ≡ phases → ⊥) → Turned kind m.contexts (line ps last) k left
-  turn_done l n phases en ep inv test =
-      turned kind m gs A B l ps last f left inv.1 (subst₂ (λ a b. Late a b left) en ep inv.3)
-      (inr (λ e. test (subst₂ (λ a b. (at ps here).node / a + 1 ≡ b) (sym en) (sym ep) (let g : line ps last left ≡ (at ps here).node = ap (λ x. (at ps x).node) (sym inv.2) in subst (λ x. x / m.contexts + 1 ≡ kind.phases) g (omega arith)))))
+  pub turn_done : SoundMeaning m → (here left : ℕ) → Turning kind n ps last here left → (left ≡ 0) ⊎ (phase n (Node here) + 1 ≡ kind.phases → ⊥) → (turn : ℕ) → turn ≡ left → Turned kind n (line ps last) k turn
+  turn_done l here left t stop turn e =
+      subst (Turned kind n (line ps last) k) (sym e)
+      (turned kind m gs (member chart.from) (member chart.to) l ps last f left t.climb.within t.late
+      (⊎_elim inl (λ other. inr (λ q. other (let g : line ps last left ≡ Node here = ap Node (sym t.climb.place) in subst (λ x. phase n x + 1 ≡ kind.phases) g (omega arith)))) stop))
 
-  module _ (pos : 0 < left) (l : left ≤ k) (e : here ≡ up ps last (k - left)) where
-    pub parent_below : (at ps here).parent < last
-    parent_below = let b = back p ps last f here left pos l e in omega (arith, b.4, b.0)
+  module _ (here left : ℕ) (c : Climb ps last here left) (pos : 0 < left) (next : ℕ) (e : next ≡ (at ps here).parent) where
+    pub next_climb : Climb ps last next (left - 1)
+    next_climb = subst (λ x. Climb ps last x (left - 1)) (sym e) (back _ ps last f c pos).climb
 
-    pub joined : p.edge (at ps (at ps here).parent).node (at ps here).node ≡ true
-    joined =
-        let b = back p ps last f here left pos l e in
-        subst₂ (λ u v. p.edge u v ≡ true) (sym b.3) (sym b.2) (joins p ps last f (left - 1) (omega arith))
+    pub next_below : next < last
+    next_below = omega (arith, (back _ ps last f c pos).earlier, c.below)
 
-    pub trace_again : (turning : Bool) (t : ℕ) → t ≤ k → (ss₀ ss : List Step) → k ≤ length ss → ShownFrom kind m gs turning (line ps last) t k left ss → SameFrom k ss₀ ss → (bk : Bool) → bk ≡ turning → (i : ℕ) → i ≡ slot bk t k (left - 1) → (s : Step) → Shows m gs (move_of kind m.contexts (at ps (at ps here).parent).node (at ps here).node) s → ((at ps here).parent ≤ last) × (left - 1 ≤ k) × ((at ps here).parent ≡ up ps last (k - (left - 1))) × ShownFrom kind m gs turning (line ps last) t k (left - 1) (set ss i s) × SameFrom k ss₀ (set ss i s)
-    trace_again turning t h ss₀ ss fits shown same bk eb i ei s w =
-        let b = back p ps last f here left pos l e in
-        let g : left ≡ suc (left - 1) = omega arith in
-        let ei' : slot turning t k (left - 1) ≡ i = sym (ei ∙ ap (λ x. slot x t k (left - 1)) eb) in
-        let w' : Shows m gs (move_of kind m.contexts (line ps last (left - 1)) (line ps last (suc (left - 1)))) s = subst₂ (λ u v. Shows m gs (move_of kind m.contexts u v) s) b.3 b.2 w in
-        let lt : left - 1 < k = omega arith in (
-          omega (arith, b.4, b.0),
-          omega arith,
-          b.1,
-          subst (λ j. ShownFrom kind m gs turning (line ps last) t k (left - 1) (set ss j s)) ei'
-              (shown_more kind m gs turning (line ps last) t k (left - 1) ss h lt fits s w' (subst (λ j. ShownFrom kind m gs turning (line ps last) t k j ss) g shown)),
-          subst (λ j. SameFrom k ss₀ (set ss j s)) ei' (same_more kind m gs turning (line ps last) t k (left - 1) ss h lt fits s ss₀ same),
-        )
+    next_node : Node next ≡ line ps last (left - 1)
+    next_node = ap Node e ∙ (back _ ps last f c pos).before
+
+    pub joined : edge kind m gs (Node next) (Node here) ≡ true
+    joined = subst₂ (λ u v. edge kind m gs u v ≡ true) (sym next_node) (sym (back _ ps last f c pos).node) (joins _ ps last f (left - 1) (omega (arith, c.within)))
+
+    -- one more step is written
+    module _ (turning : Bool) (t : ℕ) (h : t ≤ k) (ss : List Step) (fits : k ≤ length ss) (s : Step) where
+      abbrev Written : List Step → Type 0
+      Written ss' = (i : ℕ) × (i ≡ slot turning t k (left - 1)) × (ss' ≡ set ss i s)
+
+      written : {ss' : List Step} → Written ss' → ss' ≡ set ss (slot turning t k (left - 1)) s
+      written w = w.2 ∙ ap (λ i. set ss i s) w.1
+
+      pub trace_again : ShownFrom kind m gs turning (line ps last) t k left ss → Shows m gs (move_of kind n (Node next) (Node here)) s → (ss' : List Step) → Written ss' → ShownFrom kind m gs turning (line ps last) t k (left - 1) ss'
+      trace_again shown w ss' is =
+          let g : left ≡ suc (left - 1) = omega arith in
+          let w' = subst₂ (λ u v. Shows m gs (move_of kind n u v) s) next_node (back _ ps last f c pos).node w in
+          subst (ShownFrom kind m gs turning (line ps last) t k (left - 1)) (sym (written is))
+          (shown_more kind m gs turning (line ps last) t k (left - 1) ss h (omega (arith, c.within)) fits s w' (subst (λ j. ShownFrom kind m gs turning (line ps last) t k j ss) g shown))
+
+      pub trace_keeps : (ss₀ : List Step) → SameFrom k ss₀ ss → (ss' : List Step) → Written ss' → SameFrom k ss₀ ss'
+      trace_keeps ss₀ same ss' is =
+          subst (SameFrom k ss₀) (sym (written is)) (same_more kind m gs turning (line ps last) t k (left - 1) ss h (omega (arith, c.within)) fits s ss₀ same)

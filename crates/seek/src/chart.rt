@@ -1,50 +1,85 @@
 //! The graph of an activity: its nodes are contexts at phases, and its edges the moves that some legal run makes.
-ghost use Rattle.access.specs.Contexts.{member};
-ghost use Rattle.moves.specs.Grants.{standing};
-ghost use Rattle.seek.specs.Plan.{plan};
+ghost use Rattle.std.specs.Prelude.{◌≡◌};
+ghost use Rattle.moves.specs.Moved.{moved};
+ghost use Rattle.moves.specs.Regimes.{meaning_of};
+ghost use Rattle.activities.specs.Nodes.{phase, context, move_of};
+ghost use Rattle.seek.specs.Charts.{problem_of};
 
 use access::context_set::ContextSet;
 use access::policy::Policy;
 use activities::activity::Activity;
-use moves::grant::Grant;
-use moves::movement::makes;
+use moves::movement::Move;
+use moves::regime::Regime;
 use search::Graph;
 use std::marker::PhantomData;
 
 /// From which contexts to which an activity is sought, and what makes its moves possible.
 #[derive(Drop)]
 pub(crate) struct Chart<'a, A, P> {
-    pub(crate) policy: &'a P,
-    pub(crate) grants: &'a [Option<Grant>; 32],
-    pub(crate) from: ContextSet,
-    pub(crate) to: ContextSet,
-    pub(crate) activity: PhantomData<A>,
+    pub(crate) regime: &'a Regime<'a, P>,
+    from: ContextSet,
+    to: ContextSet,
+    activity: PhantomData<A>,
+}
+
+impl<'a, A: Activity, P: Policy> Chart<'a, A, P> {
+    pub(crate) fn between(
+        regime: &'a Regime<'a, P>,
+        from: ContextSet,
+        to: ContextSet,
+    ) -> Chart<'a, A, P>
+        ensures regime { result.regime.now ≡ regime.now }
+        ensures from { result.from ≡ from }
+        ensures to { result.to ≡ to }
+    {
+        Chart {
+            regime,
+            from,
+            to,
+            activity: PhantomData,
+        }
+    }
+
+    pub(crate) fn phase_of(&self, node: u16) -> usize
+        ensures { result ≡ phase (meaning_of P.Policy.meaning self.now.regime.now).contexts node }
+    {
+        usize::from(node / self.regime.policy.contexts())
+    }
+
+    fn context_of(&self, node: u16) -> u16
+        ensures { result ≡ context (meaning_of P.Policy.meaning self.now.regime.now).contexts node }
+    {
+        node % self.regime.policy.contexts() + 1
+    }
+
+    /// The move by which an edge leads from one node to another.
+    pub(crate) fn move_between(&self, before: u16, node: u16) -> Move
+        ensures { moved result ≡ move_of A.Activity.kind (meaning_of P.Policy.meaning self.now.regime.now).contexts before node }
+    {
+        A::step(
+            self.phase_of(node),
+            self.context_of(before),
+            self.context_of(node),
+        )
+    }
 }
 
 impl<A: Activity, P: Policy> Graph for Chart<'_, A, P> {
-    ghost problem = { λ c. plan A.Activity.kind (P.Policy.meaning c.policy.now) (standing c.grants.now 0) (member c.from) (member c.to) };
+    ghost problem = { problem_of A.Activity.kind P.Policy.meaning };
 
     fn nodes(&self) -> u16 {
-        A::phase_count() as u16 * self.policy.contexts()
+        A::PHASES as u16 * self.regime.policy.contexts()
     }
 
     fn edge(&self, from: u16, to: u16) -> bool {
-        let n = self.policy.contexts();
-        from / n <= to / n
-            && makes(
-                self.policy,
-                self.grants,
-                A::step((to / n) as usize, from % n + 1, to % n + 1),
-            )
+        self.phase_of(from) <= self.phase_of(to) && self.regime.makes(self.move_between(from, to))
     }
 
     fn source(&self, node: u16) -> bool {
-        let n = self.policy.contexts();
-        node / n == 0 && self.from.has(node % n + 1)
+        self.phase_of(node) == 0 && self.from.has(self.context_of(node))
     }
 
     fn target(&self, node: u16) -> bool {
-        let n = self.policy.contexts();
-        self.to.has(node % n + 1)
+        self.to.has(self.context_of(node))
     }
 }

@@ -1,7 +1,7 @@
 //! Measuring: a search over the graph of an activity that writes no steps.
 ghost use Rattle.std.specs.Prelude.{◌≡◌, length, replicate};
 ghost use Rattle.access.specs.Contexts.{member};
-ghost use Rattle.moves.specs.Grants.{standing};
+ghost use Rattle.moves.specs.Regimes.{meaning_of, grants_of};
 ghost use Rattle.seek.specs.Sought.{ToldLength};
 
 use crate::chart::Chart;
@@ -9,35 +9,25 @@ use access::context_set::ContextSet;
 use access::policy::Policy;
 use access::refusal::Refusal;
 use activities::activity::Activity;
-use moves::grant::Grant;
+use moves::regime::Regime;
 use search::{Place, search};
-use std::marker::PhantomData;
 
 /// How many moves a shortest activity of a kind has from a context of one set to a context of another, or `None` where there
 /// is no such activity of any length.
 pub fn measure<'a, A: Activity, P: Policy>(
-    policy: &'a P,
-    grants: &'a [Option<Grant>; 32],
+    regime: &'a Regime<'a, P>,
     from: ContextSet,
     to: ContextSet,
     ticks: &mut [u8],
     places: &mut [Place],
 ) -> Result<Option<usize>, Refusal>
-    ensures answer { ToldLength A.Activity.kind.phases (P.Policy.meaning policy.now) (standing grants.now 0) A.Activity.activities (member from) (member to) ticks.old places.old places.new result }
+    ensures answer { ToldLength A.Activity.kind.phases (meaning_of P.Policy.meaning regime.now) (grants_of regime.now) A.Activity.activities (member from) (member to) ticks.old places.old places.new result }
     ensures ticks { ticks.new ≡ replicate (length ticks.old) 0 }
 {
-    let chart: Chart<'_, A, P> = Chart {
-        policy,
-        grants,
-        from,
-        to,
-        activity: PhantomData,
+    let chart: Chart<'_, A, P> = Chart::between(regime, from, to);
+    let found = search(&chart, ticks, places).map_err(|_| Refusal::ShortMemory)?;
+    let Some(last) = found else {
+        return Ok(None);
     };
-    match search(&chart, ticks, places) {
-        Err(_) => Err(Refusal::ShortMemory),
-        Ok(found) => match found {
-            None => Ok(None),
-            Some(last) => Ok(Some(places[last].depth as usize)),
-        },
-    }
+    Ok(Some(usize::from(places[last].depth)))
 }

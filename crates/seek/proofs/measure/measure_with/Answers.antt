@@ -1,43 +1,28 @@
-use Rattle.std.proofs.Common.{subst, arith}
+use Rattle.std.proofs.Common.{◌≡◌, None, Some, Ok, rules, sym, subst}
 use Rattle.access.specs.Contexts.{member}
-use Rattle.moves.specs.Grants.{standing}
-use Rattle.search.specs.Queue.{Outcome}
-use Rattle.seek.specs.Plan.{plan}
-use Rattle.seek.proofs.Sought.{none_sought, shortest_sought}
+use Rattle.moves.specs.Regimes.{grants_of}
+use Rattle.activities.specs.Found.{Leads, Shortest}
+use Rattle.seek.specs.Plan.{among}
+use Rattle.seek.proofs.Sought.{told, none_sought, shortest_sought}
 use Rattle.seek.proofs.measure.measure.Goals as goal
 
-pub returns-in-None : goal.returns-in-None
-returns-in-None g c =
-    let m = g.P.Policy.meaning c.args.policy.now in
-    let gs = standing c.args.grants.now 0 in
-    let answer = c.in-Ok.ensures.answer in
-    let nowhere = subst (Outcome (plan g.A.Activity.kind m gs (member c.args.from) (member c.args.to)) c.search.new.places) c.in-None.is answer.1 in
-    record {
-      answer = (
-        record { ticks_fit = answer.0.ticks; places_fit = answer.0.places },
-        none_sought m gs (g.met.P.Policy.sound c.args.policy.now) g.met.A.Activity.lawful (member c.args.from) (member c.args.to) nowhere,
-      );
-      ticks = c.in-Ok.ensures.ticks;
-    }
+pub returns-in_default-clause-answer : goal.returns-in_default-clause-answer
+returns-in_default-clause-answer g c =
+    let m = g.P.Policy.meaning c.args.regime.now.policy.now in
+    let gs = grants_of c.args.regime.now in
+    let is : c.search.result ≡ Ok None = search rules in
+    let answer = told g.A.Activity.kind g.P.Policy.meaning c.between-chart.result c.between-chart.ensures.regime c.between-chart.ensures.from c.between-chart.ensures.to c.search.new.places None is c.search.ensures.answer in (
+      record { ticks_fit = answer.0.ticks; places_fit = answer.0.places },
+      none_sought m gs (g.met.P.Policy.sound c.args.regime.now.policy.now) g.met.A.Activity.lawful (member c.args.from) (member c.args.to) answer.1,
+    )
 
-pub bounds-places-last : goal.bounds-places-last
-bounds-places-last g c =
-    let m = g.P.Policy.meaning c.args.policy.now in
-    let gs = standing c.args.grants.now 0 in
-    let answer = c.in-Ok.ensures.answer in
-    let found = subst (Outcome (plan g.A.Activity.kind m gs (member c.args.from) (member c.args.to)) c.search.new.places) c.in-Some.is answer.1 in
-    omega (arith, found.below, answer.0.places, c.search.auto.places)
-
-pub returns-in-Some : goal.returns-in-Some
-returns-in-Some g c =
-    let m = g.P.Policy.meaning c.args.policy.now in
-    let gs = standing c.args.grants.now 0 in
-    let answer = c.in-Ok.ensures.answer in
-    let found = subst (Outcome (plan g.A.Activity.kind m gs (member c.args.from) (member c.args.to)) c.search.new.places) c.in-Some.is answer.1 in
-    record {
-      answer = (
-        record { ticks_fit = answer.0.ticks; places_fit = answer.0.places },
-        shortest_sought m gs (g.met.P.Policy.sound c.args.policy.now) g.met.A.Activity.lawful (member c.args.from) (member c.args.to) c.search.new.places c.in-Some.last found,
-      );
-      ticks = c.in-Ok.ensures.ticks;
-    }
+pub returns-clause-answer : goal.returns-clause-answer
+returns-clause-answer g c =
+    let m = g.P.Policy.meaning c.args.regime.now.policy.now in
+    let gs = grants_of c.args.regime.now in
+    let is : c.search.result ≡ Ok (Some c.in-Some.last) = search rules in
+    let answer = told g.A.Activity.kind g.P.Policy.meaning c.between-chart.result c.between-chart.ensures.regime c.between-chart.ensures.from c.between-chart.ensures.to c.search.new.places (Some c.in-Some.last) is c.search.ensures.answer in (
+      record { ticks_fit = answer.0.ticks; places_fit = answer.0.places },
+      subst (Shortest m gs (Leads g.A.Activity.activities (among m.contexts (member c.args.from)) (member c.args.to))) (sym c.from.ensures)
+          (shortest_sought m gs (g.met.P.Policy.sound c.args.regime.now.policy.now) g.met.A.Activity.lawful (member c.args.from) (member c.args.to) c.search.new.places c.in-Some.last answer.1),
+    )

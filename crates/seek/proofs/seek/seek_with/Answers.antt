@@ -1,52 +1,43 @@
-use Rattle.std.proofs.Common.{ℕ, ◌≤◌, length, Some, sym, refl, subst, arith}
+use Rattle.std.proofs.Common.{◌≡◌, ℕ, ◌≤◌, length, None, Some, Ok, rules, sym, refl, subst, arith}
 use Rattle.access.specs.Contexts.{member}
-use Rattle.moves.specs.Grants.{standing}
-use Rattle.search.specs.Queue.{Outcome}
+use Rattle.search.specs.Queue.{at}
+use Rattle.moves.specs.Regimes.{meaning_of, grants_of}
+use Rattle.activities.specs.Traced.{Traced}
 use Rattle.activities.specs.Found.{Leads, Searched}
-use Rattle.seek.specs.Plan.{plan, among}
+use Rattle.seek.specs.Plan.{among, line}
 use Rattle.seek.proofs.Charted.{few_edges}
-use Rattle.seek.proofs.Sought.{none_sought, found_sought}
+use Rattle.seek.proofs.Sought.{told, none_sought, found_sought}
 use Rattle.seek.proofs.seek.seek.Goals as goal
 
-pub write-requires : goal.write-requires
-write-requires g c =
-    let m = g.P.Policy.meaning c.args.policy.now in
-    let answer = c.in-Ok.ensures.answer in
-    let found = subst (Outcome (plan g.A.Activity.kind m (standing c.args.grants.now 0) (member c.args.from) (member c.args.to)) c.search.new.places) c.in-Some.is answer.1 in
-    let few = few_edges g.A.Activity.kind m (standing c.args.grants.now 0) (member c.args.from) (member c.args.to) (g.met.P.Policy.sound c.args.policy.now) c.search.new.places c.in-Some.last found in
-    record {
-      found = found;
-      room = omega (arith, found.below, answer.0.places, c.search.auto.places);
-      fits = omega (arith, few, c.if-steps-contexts.false, c.contexts.ensures);
-    }
+pub returns-in_default-clause-answer : goal.returns-in_default-clause-answer
+returns-in_default-clause-answer g c =
+    let m = g.P.Policy.meaning c.args.regime.now.policy.now in
+    let gs = grants_of c.args.regime.now in
+    let is : c.search.result ≡ Ok None = search rules in
+    let answer = told g.A.Activity.kind g.P.Policy.meaning c.between-chart.result c.between-chart.ensures.regime c.between-chart.ensures.from c.between-chart.ensures.to c.search.new.places None is c.search.ensures.answer in (
+      record { ticks_fit = answer.0.ticks; places_fit = answer.0.places; steps_fit = omega (arith, c.if-steps-from.false, c.contexts.ensures, c.from.ensures) },
+      (none_sought m gs (g.met.P.Policy.sound c.args.regime.now.policy.now) g.met.A.Activity.lawful (member c.args.from) (member c.args.to) answer.1, refl),
+    )
 
-pub returns-in-None : goal.returns-in-None
-returns-in-None g c =
-    let m = g.P.Policy.meaning c.args.policy.now in
-    let answer = c.in-Ok.ensures.answer in
-    let nowhere = subst (Outcome (plan g.A.Activity.kind m (standing c.args.grants.now 0) (member c.args.from) (member c.args.to)) c.search.new.places) c.in-None.is answer.1 in
-    record {
-      answer = (
-        record { ticks_fit = answer.0.ticks; places_fit = answer.0.places; steps_fit = omega (arith, c.if-steps-contexts.false, c.contexts.ensures) },
-        (none_sought m (standing c.args.grants.now 0) (g.met.P.Policy.sound c.args.policy.now) g.met.A.Activity.lawful (member c.args.from) (member c.args.to) nowhere, refl),
-      );
-      ticks = c.in-Ok.ensures.ticks;
-    }
+pub write-requires-clause-fits : goal.write-requires-clause-fits
+write-requires-clause-fits g c =
+    let m = g.P.Policy.meaning c.args.regime.now.policy.now in
+    let gs = grants_of c.args.regime.now in
+    let is : c.search.result ≡ Ok (Some c.in-Some.last) = search rules in
+    let answer = told g.A.Activity.kind g.P.Policy.meaning c.between-chart.result c.between-chart.ensures.regime c.between-chart.ensures.from c.between-chart.ensures.to c.search.new.places (Some c.in-Some.last) is c.search.ensures.answer in
+    omega (arith, few_edges g.A.Activity.kind m gs (member c.args.from) (member c.args.to) (g.met.P.Policy.sound c.args.regime.now.policy.now) c.search.new.places c.in-Some.last answer.1, c.if-steps-from.false, c.contexts.ensures, c.from.ensures)
 
-pub returns-in-Some : goal.returns-in-Some
-returns-in-Some g c =
-    let m = g.P.Policy.meaning c.args.policy.now in
-    let gs = standing c.args.grants.now 0 in
+pub returns-clause-answer : goal.returns-clause-answer
+returns-clause-answer g c =
+    let m = g.P.Policy.meaning c.args.regime.now.policy.now in
+    let gs = grants_of c.args.regime.now in
     let ps = c.search.new.places in
     let last = c.in-Some.last in
-    let answer = c.in-Ok.ensures.answer in
-    let found = subst (Outcome (plan g.A.Activity.kind m gs (member c.args.from) (member c.args.to)) ps) c.in-Some.is answer.1 in
-    let room : m.contexts ≤ length c.args.steps.now = omega (arith, c.if-steps-contexts.false, c.contexts.ensures) in
-    let told = found_sought m gs (g.met.P.Policy.sound c.args.policy.now) g.met.A.Activity.lawful (member c.args.from) (member c.args.to) ps last found c.args.steps.now c.write.new.steps room c.write.auto.steps c.write.ensures.shown c.write.ensures.rest in
-    record {
-      answer = (
-        record { ticks_fit = answer.0.ticks; places_fit = answer.0.places; steps_fit = room },
-        subst (λ (k : ℕ). Searched m gs (Leads g.A.Activity.activities (among m.contexts (member c.args.from)) (member c.args.to)) c.args.steps.now c.write.new.steps (Some k)) (sym c.write.ensures.all) told,
-      );
-      ticks = c.in-Ok.ensures.ticks;
-    }
+    let is : c.search.result ≡ Ok (Some c.in-Some.last) = search rules in
+    let answer = told g.A.Activity.kind g.P.Policy.meaning c.between-chart.result c.between-chart.ensures.regime c.between-chart.ensures.from c.between-chart.ensures.to ps (Some last) is c.search.ensures.answer in
+    let room : m.contexts ≤ length c.args.steps.now = omega (arith, c.if-steps-from.false, c.contexts.ensures, c.from.ensures) in
+    let shown = subst (λ r. Traced g.A.Activity.kind (meaning_of g.P.Policy.meaning r) (grants_of r) g.A.Activity.BACKWARDS (line ps last) (at ps last).depth c.write.new.steps) c.between-chart.ensures.regime c.write.ensures.shown in
+    let sought = found_sought m gs (g.met.P.Policy.sound c.args.regime.now.policy.now) g.met.A.Activity.lawful (member c.args.from) (member c.args.to) ps last answer.1 c.args.steps.now c.write.new.steps room c.write.auto.steps shown c.write.ensures.rest in (
+      record { ticks_fit = answer.0.ticks; places_fit = answer.0.places; steps_fit = room },
+      subst (λ (k : ℕ). Searched m gs (Leads g.A.Activity.activities (among m.contexts (member c.args.from)) (member c.args.to)) c.args.steps.now c.write.new.steps (Some k)) (sym c.write.ensures.all) sought,
+    )

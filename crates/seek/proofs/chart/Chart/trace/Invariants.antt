@@ -1,19 +1,18 @@
-use Rattle.std.proofs.Common.{◌≡◌, ◌-◌, ◌≤◌, length}
-use Rattle.moves.specs.Grants.{standing}
+use Rattle.std.proofs.Common.{◌≡◌, length}
+use Rattle.search.specs.Queue.{at}
+use Rattle.moves.specs.Regimes.{grants_of}
 use Rattle.activities.specs.Traced.{ShownFrom, SameFrom}
-use Rattle.seek.specs.Plan.{up, line}
+use Rattle.seek.specs.Plan.{line}
+use Rattle.seek.proofs.Lines.{Climb}
 use Rattle.seek.proofs.chart.Chart.trace.Given as goal
 
 abbrev pub invariant-loop-left : goal.invariant-loop-left
 invariant-loop-left g l =
-    (l.here ≤ l.last)
-    × (l.left ≤ l.all)
-    × (l.here ≡ up l.places l.last (l.all - l.left))
-    × ShownFrom g.A.Activity.kind (g.P.Policy.meaning l.self.policy.now) (standing l.self.grants.now 0) g.A.Activity.back (line l.places l.last) l.turn l.all l.left l.steps.items.now
-    × SameFrom l.all l.initial.steps.items.now l.steps.items.now
-    × (l.steps.items.ghost_name ≡ l.initial.steps.items.ghost_name)
-    × (l.steps.len ≡ l.all)
-    × (length l.steps.items.now ≡ length l.initial.steps.items.now)
-
-abbrev pub decreases-loop-left : goal.decreases-loop-left
-decreases-loop-left g l = l.left
+    record {
+      climb : Climb l.places l.last l.here l.left;
+      shown : ShownFrom g.A.Activity.kind (g.P.Policy.meaning l.self.regime.now.policy.now) (grants_of l.self.regime.now) g.A.Activity.BACKWARDS (line l.places l.last) l.turn (at l.places l.last).depth l.left l.steps.items.now;
+      same : SameFrom (at l.places l.last).depth l.initial.steps.items.now l.steps.items.now;
+      lender : l.steps.items.ghost_name ≡ l.initial.steps.items.ghost_name;
+      len : l.steps.len ≡ (at l.places l.last).depth;
+      sized : length l.steps.items.now ≡ length l.initial.steps.items.now;
+    }

@@ -1,16 +1,21 @@
-use Rattle.access.specs.Contexts.{member}
-use Rattle.moves.specs.Grants.{standing}
+use Rattle.std.proofs.Common.{inl, inr, arith}
+use Rattle.seek.proofs.Lines.{climb_start}
 use Rattle.seek.proofs.Turns.{turn_again, turn_done}
 use Rattle.seek.proofs.chart.Chart.turn.Goals as goal
 
+pub loop-left-init : goal.loop-left-init
+loop-left-init g c = record { climb = climb_start c.args.places.now c.args.last c.from-left.result c.from-left.ensures; late = λ d l h. absurd (omega arith) }
+
 pub loop-left-preserved : goal.loop-left-preserved
 loop-left-preserved g c =
-    turn_again g.A.Activity.kind (g.P.Policy.meaning c.args.self.now.policy.now) (standing c.args.self.now.grants.now 0) (member c.args.self.now.from) (member c.args.self.now.to)
-    c.args.places.now c.args.last c.requires.found c.loop-left.here c.loop-left.left c.contexts-n.result c.phase_count-phases.result
-    c.loop-left-test.true c.loop-left.invariant c.if-places-here.true
+    turn_again g.A.Activity.kind g.P.Policy.meaning c.args.self.now c.args.places.now c.args.last c.requires.found c.loop-left.here c.loop-left.left c.loop-left.invariant c.loop-left-test.true (omega (arith, c.if-phase_of-PHASES.false, c.phase_of.ensures, c.PHASES.ensures, g.met.A.Activity.counted))
+    c.from-here.result c.from-here.ensures
 
-pub returns-else-places-here : goal.returns-else-places-here
-returns-else-places-here g c =
-    turn_done g.A.Activity.kind (g.P.Policy.meaning c.args.self.now.policy.now) (standing c.args.self.now.grants.now 0) (member c.args.self.now.from) (member c.args.self.now.to)
-    c.args.places.now c.args.last c.requires.found c.loop-left.here c.loop-left.left (g.met.P.Policy.sound c.args.self.now.policy.now) c.contexts-n.result c.phase_count-phases.result
-    c.contexts-n.ensures c.phase_count-phases.ensures c.loop-left.invariant c.if-places-here.false
+pub returns-then-phase_of-PHASES : goal.returns-then-phase_of-PHASES
+returns-then-phase_of-PHASES g c =
+    turn_done g.A.Activity.kind g.P.Policy.meaning c.args.self.now c.args.places.now c.args.last c.requires.found (g.met.P.Policy.sound c.args.self.now.regime.now.policy.now) c.loop-left.here c.loop-left.left c.loop-left.invariant
+    (inr (λ e. c.if-phase_of-PHASES.true (omega (arith, e, c.phase_of.ensures, c.PHASES.ensures, g.met.A.Activity.counted)))) _ (omega arith)
+
+pub returns : goal.returns
+returns g c =
+    turn_done g.A.Activity.kind g.P.Policy.meaning c.args.self.now c.args.places.now c.args.last c.requires.found (g.met.P.Policy.sound c.args.self.now.regime.now.policy.now) c.loop-left.here c.loop-left.left c.loop-left.invariant (inl (omega arith)) _ (omega arith)
