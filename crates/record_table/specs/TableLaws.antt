@@ -5,7 +5,7 @@ use Rattle.std.proofs.Math.Path.{fun_ext}
 use Rattle.std.proofs.Math.Logic.{∥∥₁_elim, ∥∥₁_map}
 use Rattle.std.proofs.Math.Nat.{ℕ_set}
 use Rattle.std.proofs.Math.Bridge.{le_prop}
-use Rattle.std.proofs.lemmas.Bool.{cases_eq, eq-eqb, ne_eqb}
+use Rattle.std.proofs.lemmas.Bool.{cases_eq, eq-eqb}
 use Rattle.std.proofs.lemmas.Bool.Decides.{nat_tests}
 use Rattle.access.specs.Policy.{with_pair, with_written}
 use Rattle.access.specs.Contexts.{both_inside}
@@ -78,8 +78,8 @@ module _ (p : RecordTable) where
   -- the unused chain is empty exactly where there is no room
   full_is : (first 0 == 0) ≡ (filled (table_meaning p) == 1024)
   full_is = ⊎_elim
-      (λ z. eq-eqb (first 0) 0 z ∙ sym (eq-eqb (filled (table_meaning p)) 1024 (full z)))
-      (λ n. ne_eqb (first 0) 0 n ∙ sym (ne_eqb (filled (table_meaning p)) 1024 (λ z. let a = free (omega arith) in omega (arith, a, z))))
+      (λ z. let a = full z in grind (arith, nat_tests))
+      (λ n. let a = free (omega arith) in grind (arith, nat_tests))
       (cases_eq (first 0) 0)
 
   arrays : Arrays p.chains
