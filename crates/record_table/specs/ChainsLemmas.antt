@@ -1,7 +1,7 @@
 -- Lists of linked records, and what a write of one record does to them.
 use Rattle.std.specs.Prelude.{◌≡◌, ℕ, zero, suc, ◌<◌, ◌≤◌, Bool, true, false, cond, ◌⊎◌, List, [], ◌∷◌, length, Some, None, Option, ◌==◌, ◌≢◌, nat_eq, refl}
 use Rattle.std.proofs.Common.{sym, ap, subst, ◌∙◌, inl, inr, ⊎_elim, arith}
-use Rattle.std.proofs.lemmas.Bool.{cases_eq, cases_Bool, eqb-true, eq-eqb, ne_eqb}
+use Rattle.std.proofs.lemmas.Bool.{cases_Bool, eqb-true, eq-eqb, ne_eqb}
 use Rattle.std.proofs.lemmas.Bool.Decides.{nat_tests}
 use Rattle.record_table.specs.declared.chains.Record.{Record}
 use Rattle.record_table.specs.Chains.{first_that}
@@ -46,7 +46,7 @@ linked_same mem new owner same c h (y ∷ ys) k = (k.0, k.1, k.2, k.3, k.4, rw (
 
 -- what is read alike in the new record is read alike in all
 pub read_same : (mem : ℕ → Record) (i : ℕ) (r : Record) (read : Record → ℕ) → read r ≡ read (mem i) → (y : ℕ) → read (upd mem i r y) ≡ read (mem y)
-read_same mem i r read e y = ⊎_elim (λ q. rw (eq-eqb y i q, q) e) (λ q. rw (ne_eqb y i q) refl) (cases_eq y i)
+read_same mem i r read e y = grind (arith, nat_tests)
 
 -- a write of a record that is not in the list
 module _ (mem : ℕ → Record) (x : ℕ) (r : Record) where

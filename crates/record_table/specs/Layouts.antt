@@ -1,7 +1,7 @@
 -- What the chains of a layout hold together.
 use Rattle.std.specs.Prelude.{◌≡◌, ℕ, zero, suc, ◌+◌, ◌<◌, ◌≤◌, true, false, cond, ◌&&◌, List, [], ◌∷◌, length, Some, None, Option, ◌==◌, ◌≢◌, refl}
 use Rattle.std.proofs.Common.{sym, ap, subst, ◌∙◌, ⊎_elim, arith}
-use Rattle.std.proofs.lemmas.Bool.{cases_Bool, eqb-true, and_parts, both_ways}
+use Rattle.std.proofs.lemmas.Bool.{cases_Bool}
 use Rattle.std.proofs.lemmas.Bool.Decides.{nat_tests}
 use Rattle.access.specs.Policy.{with_pair}
 use Rattle.access.specs.Contexts.{both_inside}
@@ -94,15 +94,10 @@ module _ (n : ℕ) (first : ℕ → ℕ) (mem : ℕ → Record) (l : Laid n firs
           let p = pair_parts n x y h in
           written_is n now_first new e.0 x y p ∙ e.1 x p.0 p.1 y ∙ ap (λ (z : ℕ). cond (x == s && y == t) v z) (sym (written_is n first mem l x y p))
 
-      another : both_inside n x y ≡ false → (x == s && y == t) ≢ true
-      another h q =
-          let p = and_parts (x == s) (y == t) q in
-          let a : x ≡ s = eqb-true x s p.0 in
-          let b : y ≡ t = eqb-true y t p.1 in
-          both_ways (both_inside n x y) h (pair_inside n x y (omega arith) (omega arith) (omega arith) (omega arith))
-
       beyond : both_inside n x y ≡ false → written_of n now_first new x y ≡ with_pair (written_of n first mem) s t v x y
-      beyond h = rw h (⊎_elim (λ q. absurd (another h q)) (λ q. rw q refl) (cases_Bool (x == s && y == t)))
+      beyond h =
+          let here = pair_inside n s t at.0 at.1 at.2 at.3 in
+          rw h (grind (arith, nat_tests))
 
   -- how many pairs are held after it
   pub pairs_after : (new : ℕ → Record) (chains : ℕ → List ℕ) → Holds n first mem l s t v new chains → pairs (held_by new chains) n n + some (held_by mem l.chains s t) ≡ pairs (held_by mem l.chains) n n + some v

@@ -1,11 +1,12 @@
 -- The record table keeps what every policy keeps.
-use Rattle.std.specs.Prelude.{◌≡◌, ℕ, ◌<◌, ◌≤◌, Bool, true, false, not, ◌&&◌, List, length, IfSome, Some, None, Option, ◌==◌, refl}
+use Rattle.std.specs.Prelude.{◌≡◌, ℕ, ◌<◌, ◌≤◌, true, false, List, length, IfSome, Some, None, Option, ◌==◌, refl}
 use Rattle.std.proofs.Common.{sym, ap, ap₂, ◌∙◌, ⊎_elim, arith}
 use Rattle.std.proofs.Math.Path.{fun_ext}
 use Rattle.std.proofs.Math.Logic.{∥∥₁_elim, ∥∥₁_map}
 use Rattle.std.proofs.Math.Nat.{ℕ_set}
 use Rattle.std.proofs.Math.Bridge.{le_prop}
-use Rattle.std.proofs.lemmas.Bool.{cases_Bool, cases_eq, eqb-true, eq-eqb, ne_eqb, and_parts}
+use Rattle.std.proofs.lemmas.Bool.{cases_eq, eq-eqb}
+use Rattle.std.proofs.lemmas.Bool.Decides.{nat_tests}
 use Rattle.access.specs.Policy.{with_pair, with_written}
 use Rattle.access.specs.Contexts.{both_inside}
 use Rattle.access.specs.Sound.{Sound, filled}
@@ -61,19 +62,25 @@ module _ (p : RecordTable) where
     written_inside = λ s t out. rw out refl;
     permitted_inside = λ s t out. rw out refl;
     written_known = λ s t. ∥∥₁_elim p.laid le_prop (λ l. known_all n first mem l s t);
-    permitted_known = λ s t. ⊎_elim (λ y. rw y (omega arith)) (λ y. rw y (omega arith)) (cases_Bool (both_inside n s t));
+    permitted_known = λ s t. grind (arith, nat_tests);
     room = ∥∥₁_elim p.laid le_prop (λ l. let a = filled_is n first mem l in omega arith);
   }
 
-  -- the unused chain is empty exactly where there is no room
-  full_is : first 0 ≡ 0 → filled (table_meaning p) ≡ 1024
-  full_is z = ∥∥₁_elim p.laid (ℕ_set _ _) (λ l. let a = filled_is n first mem l in let b = ends mem l.owner 0 (first 0) (l.chains 0) (l.linked 0 (omega arith)) z in omega arith)
+  full : first 0 ≡ 0 → filled (table_meaning p) ≡ 1024
+  full z = ∥∥₁_elim p.laid (ℕ_set _ _) (λ l. let a = filled_is n first mem l in let b = ends mem l.owner 0 (first 0) (l.chains 0) (l.linked 0 (omega arith)) z in omega arith)
 
-  room_is : 1 ≤ first 0 → filled (table_meaning p) < 1024
-  room_is h = ∥∥₁_elim p.laid le_prop (λ l.
+  free : 1 ≤ first 0 → filled (table_meaning p) < 1024
+  free h = ∥∥₁_elim p.laid le_prop (λ l.
       let a = filled_is n first mem l in
       let b = begins mem l.owner 0 (first 0) (l.chains 0) (l.linked 0 (omega arith)) h in
       omega (arith, a, ap length b.1))
+
+  -- the unused chain is empty exactly where there is no room
+  full_is : (first 0 == 0) ≡ (filled (table_meaning p) == 1024)
+  full_is = ⊎_elim
+      (λ z. let a = full z in grind (arith, nat_tests))
+      (λ n. let a = free (omega arith) in grind (arith, nat_tests))
+      (cases_eq (first 0) 0)
 
   arrays : Arrays p.chains
   arrays = record { heads_size = p.sizes.2; slots_size = p.sizes.3; firsts = p.firsts; links = p.links }
@@ -108,31 +115,17 @@ module _ (p : RecordTable) where
 
     -- nothing is needed for a pair that has a record; else an unused record
     pub room_for_own : (v i : ℕ) → Has p s t i → no_room (table_meaning p) s t v ≡ false
-    room_for_own v i has = rw (ne_eqb ((table_meaning p).written s t) 0 (λ z. let a = some_written i has.0 in omega (arith, a, z))) (no_pair (not (v == 0)))
-      where
-        no_pair : (b : Bool) → (b && false && filled (table_meaning p) == 1024) ≡ false
-        no_pair true = refl
-        no_pair false = refl
+    room_for_own v i has = let a = some_written i has.0 in grind (arith, nat_tests)
 
     pub room_for_new : (v : ℕ) → (v == 0) ≡ false → Lacks p s t → (first_of p.chains.heads 0 == 0) ≡ no_room (table_meaning p) s t v
-    room_for_new v e lacks =
-        ⊎_elim
-        (λ z. eq-eqb (first 0) 0 z ∙ sym (is (filled (table_meaning p)) (eq-eqb (filled (table_meaning p)) 1024 (full_is z))))
-        (λ n. ne_eqb (first 0) 0 n ∙ sym (is (filled (table_meaning p)) (ne_eqb (filled (table_meaning p)) 1024 (λ z. let a = room_is (omega arith) in omega (arith, a, z)))))
-        (cases_eq (first 0) 0)
-      where
-        is : {b : Bool} (k : ℕ) → (k == 1024) ≡ b → (not (v == 0) && (table_meaning p).written s t == 0 && k == 1024) ≡ b
-        is k f = rw (e, eq-eqb ((table_meaning p).written s t) 0 (none_written lacks)) f
+    room_for_new v e lacks = rw (e, eq-eqb ((table_meaning p).written s t) 0 (none_written lacks)) full_is
 
     -- a pair that has no record is emptied by doing nothing
     pub empty_done : Lacks p s t → table_meaning p ≡ with_set (table_meaning p) s t 0
     empty_done e = ap (with_written (table_meaning p)) (fun_ext (λ x. fun_ext (λ y. same x y (none_written e))))
       where
         same : (x y : ℕ) → (table_meaning p).written s t ≡ 0 → (table_meaning p).written x y ≡ with_pair (table_meaning p).written s t 0 x y
-        same x y z = ⊎_elim
-            (λ h. let q = and_parts (x == s) (y == t) h in rw h (rw (eqb-true x s q.0, eqb-true y t q.1) z))
-            (λ h. rw h refl)
-            (cases_Bool (x == s && y == t))
+        same x y z = grind (arith, nat_tests)
 
     wrote : (v : ℕ) (k : Chains) → Arrays k → (now_first : ℕ → ℕ) (new : ℕ → Record) → first_of k.heads ≡ now_first → numbered k.slots ≡ new
         → ((l : Laid n first mem) → Effect n first mem l s t v now_first new) → Wrote p s t v k

@@ -1,5 +1,5 @@
 -- A record leaves its chain.
-use Rattle.std.specs.Prelude.{◌≡◌, ℕ, zero, suc, ◌≤◌, Bool, true, false, cond, ◌⊎◌, List, [], ◌∷◌, length, Some, None, Option, ◌==◌, ◌≢◌, nat_eq, refl}
+use Rattle.std.specs.Prelude.{◌≡◌, ℕ, zero, suc, ◌≤◌, Bool, cond, ◌⊎◌, List, [], ◌∷◌, length, Some, None, Option, ◌==◌, ◌≢◌, nat_eq, refl}
 use Rattle.std.proofs.Common.{sym, ap, subst, ◌∙◌, inl, inr, ⊎_elim, arith}
 use Rattle.std.proofs.lemmas.Bool.{cases_eq, cases_Bool, eq-eqb, ne_eqb}
 use Rattle.std.proofs.lemmas.Bool.Decides.{nat_tests}
@@ -42,12 +42,13 @@ module _ (n : ℕ) (mem : ℕ → Record) (i : ℕ) where
 
   none_without : (t : ℕ) (ys : List ℕ) → Tidy n mem ys → look mem t ys ≡ 0 → look mem t (without i ys) ≡ 0
   none_without t [] k e = refl
-  none_without t (z ∷ zs) k e = go (none_without t zs k.2) (cases_Bool ((mem z).target == t)) (cases_Bool (z == i))
-    where
-      go : (look mem t zs ≡ 0 → look mem t (without i zs) ≡ 0) → (((mem z).target == t) ≡ true) ⊎ (((mem z).target == t) ≡ false) → ((z == i) ≡ true) ⊎ ((z == i) ≡ false) → look mem t (without i (z ∷ zs)) ≡ 0
-      go rest (inl p) q = absurd (let a : (mem z).operations.bits ≡ 0 = rw p at e in omega (arith, k.0.2))
-      go rest (inr p) (inl q) = rw q (rw p at e)
-      go rest (inr p) (inr q) = rw (q, p) (rest (rw p at e))
+  none_without t (z ∷ zs) k e =
+      let some = k.0.2 in
+      let rest = none_without t zs k.2 in
+      ⊎_elim
+      (λ q. rw q (grind (arith, nat_tests)))
+      (λ q. rw q (grind (arith, nat_tests)))
+      (cases_Bool (z == i))
 
   pub tidy_without : (ys : List ℕ) → Tidy n mem ys → Tidy n mem (without i ys)
   tidy_without [] k = tt

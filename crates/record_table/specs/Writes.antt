@@ -1,8 +1,9 @@
 -- A write of one element of an array.
 use Rattle.std.specs.Prelude.{◌≡◌, ℕ, zero, suc, ◌-◌, ◌<◌, ◌≤◌, ◌⊎◌, List, [], ◌∷◌, length, get_or, set, refl}
-use Rattle.std.proofs.Common.{◌∙◌, inl, inr, ⊎_elim, arith, length-set, get_or-set_same, get_or-set_other}
+use Rattle.std.proofs.Common.{◌∙◌, inl, inr, ⊎_elim, arith, length-set, get_or-set_other}
+use Rattle.std.proofs.lemmas.Grind.{get_or-set_at}
 use Rattle.std.proofs.Math.Path.{fun_ext}
-use Rattle.std.proofs.lemmas.Bool.{cases_eq, eq-eqb, ne_eqb}
+use Rattle.std.proofs.lemmas.Bool.Decides.{nat_tests}
 use Rattle.record_table.specs.declared.chains.Record.{Record}
 use Rattle.record_table.specs.declared.chains.Chains.{Chains}
 use Rattle.record_table.specs.Chains.{blank, numbered, first_of, with_first, with_record, LinksLow}
@@ -10,7 +11,7 @@ use Rattle.record_table.specs.ChainsLemmas.{upd}
 
 -- seen as a function
 get_d_set : {X : Type 0} (l : List X) (i : ℕ) (v d : X) → i < length l → (k : ℕ) → get_or (set l i v) k d ≡ upd (λ j. get_or l j d) i v k
-get_d_set l i v d h k = ⊎_elim (λ e. rw e (rw (eq-eqb i i refl) (get_or-set_same l i v d h))) (λ ne. rw (ne_eqb k i ne) (get_or-set_other l i k v d ne)) (cases_eq k i)
+get_d_set l i v d h k = grind (arith, nat_tests, get_or-set_at, get_or-set_other)
 
 pub first_set : (heads : List ℕ) (c v : ℕ) → c < length heads → first_of (set heads c v) ≡ upd (first_of heads) c v
 first_set heads c v h = fun_ext (get_d_set heads c v 0 h)

@@ -49,9 +49,9 @@ impl RecordTable {
     fn lacks_room(&self, found: Option<u16>, operations: OperationSet) -> bool
         ensures { (subject target : ℕ) → Pair self.now.contexts subject target → Own self.now subject target found → result ≡ no_room (table_meaning self.now) subject target operations.bits }
     {
-        match (found, operations.is_empty()) {
-            (None, false) => self.chains.first(UNUSED) == 0,
-            _ => false,
+        match found {
+            Some(_) => false,
+            None => !operations.is_empty() && self.chains.first(UNUSED) == 0,
         }
     }
 

@@ -1,9 +1,6 @@
-use Rattle.std.proofs.Common.{rules, ◌≢◌, refl, ◌∙◌, arith, get_or-set_other}
+use Rattle.std.proofs.Common.{rules, ◌≢◌, ◌∙◌, arith, get_or-set_other}
 use Rattle.record_table.specs.Chains.{blank}
 use Rattle.record_table.proofs.chains.Chains.all_unused.Goals as goal
-
-pub returns-clause-heads : goal.returns-clause-heads
-returns-clause-heads c = rw c.from.ensures refl
 
 pub returns-clause-links : goal.returns-clause-links
 returns-clause-links c = λ k low.
