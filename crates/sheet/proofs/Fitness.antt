@@ -1,8 +1,8 @@
 -- Properties that are entered and struck stay fit.
-use Rattle.std.proofs.Common.{◌≡◌, ℕ, Bool, true, false, cond, not, ◌||◌, eqb, List, [], ◌∷◌, is_some, Some, None, Option, refl, subst, arith}
-use Rattle.access.specs.Refusals.{first_of, when_accepted}
-use Rattle.access.specs.declared.refusal.Refusal.{Refusal}
+use Rattle.std.proofs.Common.{◌≡◌, ℕ, Bool, true, false, not, ◌||◌, eqb, List, [], ◌∷◌, is_some, Some, None, Option, refl, subst, arith}
+use Rattle.access.specs.Refusals.{first_of}
 use Rattle.access.specs.declared.refusal.Refusal.TheVariants.{NumberOutside, StandsAlready, UnfitSet, SharedContext}
+use Rattle.std.proofs.lemmas.Bool.{cond_both}
 use Rattle.access.specs.Contexts.{inside, meet}
 use Rattle.entries.specs.Entries.{Entries, put}
 use Rattle.properties.specs.declared.property.Property.{Property}
@@ -10,6 +10,7 @@ use Rattle.sheet.specs.Book.{Opened, Book, unfit, unfit_second, refusal, accepte
 use Rattle.sheet.specs.Judging.{fits, Fit}
 use Rattle.sheet.specs.Fitness.{FitnessStays}
 use Rattle.sheet.specs.declared.request.Request.{Request}
+use Rattle.sheet.proofs.Accepted.{after}
 use Rattle.sheet.specs.declared.request.Request.TheVariants.{Set, EnterGrant, StrikeGrant, EnterProperty, StrikeProperty, Open, Adopt, Withdraw, AskSettings, AskContexts, AskCapacity, AskWritten, AskPermitted}
 
 -- a property that is entered is fit
@@ -24,36 +25,30 @@ entered_fit b k p e = go (inside 64 k) (is_some (b.properties k)) (unfit b.polic
 
 -- an entry replaced by a fit one
 fit_put : (n : ℕ) (f : Entries Property) (k : ℕ) (e : Option Property) → ((j : ℕ) → fits n (f j) ≡ true) → fits n e ≡ true → (j : ℕ) → fits n (put f k e j) ≡ true
-fit_put n f k e all one j = go (eqb j k)
-  where
-    go : (b : Bool) → fits n (cond b e (f j)) ≡ true
-    go true = one
-    go false = all j
+fit_put n f k e all one j = cond_both (eqb j k) e (f j) (λ x. fits n x ≡ true) (λ _. one) (λ _. all j)
 
--- a call leaves the properties fit where it does so accepted
-either : (o : Option Refusal) (new old : Book) → (o ≡ None → Fit new) → Fit old → Fit (when_accepted o new old)
-either None new old a b = a refl
-either (Some why) new old a b = b
-
+-- a call leaves the properties fit
 step : (b : Book) (q : Request) → Fit b → Fit (fed b q)
-step b (Set s t ops) f = either (refusal b (Set s t ops)) (accepted b (Set s t ops)) b (λ _. f) f
-step b (EnterGrant n g) f = either (refusal b (EnterGrant n g)) (accepted b (EnterGrant n g)) b (λ _. f) f
-step b (StrikeGrant n) f = either (refusal b (StrikeGrant n)) (accepted b (StrikeGrant n)) b (λ _. f) f
-step b (EnterProperty n p) f =
-    either (refusal b (EnterProperty n p)) (accepted b (EnterProperty n p)) b (λ e. fit_put b.policy.contexts b.properties n (Some p) f (entered_fit b n p e)) f
-step b (StrikeProperty n) f = either (refusal b (StrikeProperty n)) (accepted b (StrikeProperty n)) b (λ _. fit_put b.policy.contexts b.properties n None f refl) f
-step b Open f = either (refusal b Open) (accepted b Open) b (λ _. f) f
-step b Adopt f = either (refusal b Adopt) (accepted b Adopt) b (λ _. f) f
-step b Withdraw f = either (refusal b Withdraw) (accepted b Withdraw) b (λ _. subst (λ (n : ℕ). (k : ℕ) → fits n (b.properties k) ≡ true) (same b.change) f) f
+step b q f = after Fit b q (new q) f
   where
     same : (c : Option Opened) → b.policy.contexts ≡ (put_back c b.policy).contexts
     same None = refl
     same (Some o) = refl
-step b AskSettings f = f
-step b AskContexts f = f
-step b AskCapacity f = f
-step b (AskWritten s t) f = f
-step b (AskPermitted s t) f = f
+
+    new : (q : Request) → refusal b q ≡ None → Fit (accepted b q)
+    new (Set s t ops) e = f
+    new (EnterGrant n g) e = f
+    new (StrikeGrant n) e = f
+    new (EnterProperty n p) e = fit_put b.policy.contexts b.properties n (Some p) f (entered_fit b n p e)
+    new (StrikeProperty n) e = fit_put b.policy.contexts b.properties n None f refl
+    new Open e = f
+    new Adopt e = f
+    new Withdraw e = subst (λ (n : ℕ). (k : ℕ) → fits n (b.properties k) ≡ true) (same b.change) f
+    new AskSettings e = f
+    new AskContexts e = f
+    new AskCapacity e = f
+    new (AskWritten s t) e = f
+    new (AskPermitted s t) e = f
 
 steps : (b : Book) (qs : List Request) → Fit b → Fit (fed_all b qs)
 steps b [] f = f

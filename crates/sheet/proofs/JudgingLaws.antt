@@ -1,8 +1,7 @@
 -- From a judging of what a sheet holds to one of the book that stands on it.
-use Rattle.std.proofs.Common.{◌≡◌, ℕ, Bool, true, false, cond, not, ◌||◌, List, [], ◌∷◌, length, Some, None, Ok, Err, Option, Result, sym, refl, ap, ◌∙◌, subst, ⊎_elim, arith}
-use Rattle.std.proofs.lemmas.Bool.{cases_Bool}
+use Rattle.std.proofs.Common.{◌≡◌, ℕ, Bool, true, false, cond, not, List, [], ◌∷◌, length, Some, None, Ok, Err, Option, Result, sym, refl, ap, ◌∙◌, subst, ⊎_elim, arith}
+use Rattle.std.proofs.lemmas.Bool.{cases_Bool, or_parts}
 use Rattle.std.proofs.lemmas.Bool.Decides.{nat_tests}
-use Rattle.access.proofs.Tests.{differ}
 use Rattle.access.specs.declared.context_set.ContextSet.{ContextSet}
 use Rattle.access.specs.Contexts.{inside, member, has_above, empty}
 use Rattle.access.proofs.ContextLaws.{none_above}
@@ -61,20 +60,15 @@ scarce n ts ps ss h =
     (cases_Bool (short n (length ts) (length ps) (length ss)))
 
 -- the sets of a fit property are of contexts
-both_false : (a b : Bool) → not (a || b) ≡ true → (a ≡ false) × (b ≡ false)
-both_false false false e = (refl, refl)
-both_false false true e = differ (sym e)
-both_false true b e = differ (sym e)
-
-left_false : (a b : Bool) → (a || b) ≡ false → a ≡ false
-left_false false b e = refl
-left_false true b e = e
+is_false : (b : Bool) → not b ≡ true → b ≡ false
+is_false false e = refl
+is_false true e = sym e
 
 of_contexts : (n : ℕ) (p : Property) → fits n (Some p) ≡ true → OfContexts n (property_of p)
-of_contexts n p e = let f = both_false (unfit n p.first) (unfit_second n p.template p.second) e in go p.template p.first p.second f.0 f.1
+of_contexts n p e = let f = or_parts (unfit n p.first) (unfit_second n p.template p.second) (is_false _ e) in go p.template p.first p.second f.0 f.1
   where
     fit_set : (s : ContextSet) → unfit n s ≡ false → AllInside n (member s)
-    fit_set s e = none_above n s (left_false (has_above n s) (empty s) e)
+    fit_set s e = none_above n s (or_parts (has_above n s) (empty s) e).0
 
     go : (t : Template) (a b : ContextSet) → unfit n a ≡ false → unfit_second n t b ≡ false → OfContexts n (forbidding t (member a) (member b))
     go Integrity a b f g = (fit_set a f, fit_set b g)

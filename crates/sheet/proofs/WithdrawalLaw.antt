@@ -1,5 +1,5 @@
 -- Every written set is as it stood at the opening.
-use Rattle.std.proofs.Common.{◌≡◌, ℕ, ◌+◌, true, List, [], ◌∷◌, Some, None, Option, sym, refl, ap, arith}
+use Rattle.std.proofs.Common.{◌≡◌, ℕ, ◌+◌, true, List, [], ◌∷◌, is_some, Some, None, Option, sym, refl, ap, arith}
 use Rattle.std.proofs.lemmas.Bool.{and_parts}
 use Rattle.access.specs.Policy.{Matrix}
 use Rattle.access.specs.Refusals.{when_accepted}
@@ -8,6 +8,8 @@ use Rattle.access.proofs.Tests.{differ}
 use Rattle.sheet.specs.Book.{Opened, Book, refusal, accepted, fed, fed_all, one_more}
 use Rattle.sheet.specs.Withdrawal.{undeciding, all_undeciding, WithdrawalRestores}
 use Rattle.sheet.specs.declared.request.Request.{Request}
+use Rattle.access.specs.declared.refusal.Refusal.TheVariants.{OpenAlready}
+use Rattle.sheet.proofs.Accepted.{after}
 use Rattle.sheet.specs.declared.request.Request.TheVariants.{Set, EnterGrant, StrikeGrant, EnterProperty, StrikeProperty, Open, Adopt, Withdraw, AskSettings, AskContexts, AskCapacity, AskWritten, AskPermitted}
 
 -- a change is open, and its copy is w
@@ -16,31 +18,24 @@ record Copies (w : Matrix) (c : Option Opened) : Type 0 where
   is : c ≡ Some what
   copies : what.copy ≡ w
 
--- a call, accepted or refused, leaves the copy of the open change
-either : (w : Matrix) (o : Option Refusal) (new old : Book) → Copies w new.change → Copies w old.change → Copies w (when_accepted o new old).change
-either w None new old a b = a
-either w (Some why) new old a b = b
-
 -- one call that decides nothing keeps the copy
 step : (w : Matrix) (b : Book) (q : Request) → undeciding q ≡ true → Copies w b.change → Copies w (fed b q).change
-step w b (Set s t ops) u k =
-    either w (refusal b (Set s t ops)) (accepted b (Set s t ops)) b (record { what = record { copy = k.what.copy; notes = k.what.notes + 1 }; is = ap one_more k.is; copies = k.copies }) k
-step w b (EnterGrant n g) u k = either w (refusal b (EnterGrant n g)) (accepted b (EnterGrant n g)) b k k
-step w b (StrikeGrant n) u k = either w (refusal b (StrikeGrant n)) (accepted b (StrikeGrant n)) b k k
-step w b (EnterProperty n p) u k = either w (refusal b (EnterProperty n p)) (accepted b (EnterProperty n p)) b k k
-step w b (StrikeProperty n) u k = either w (refusal b (StrikeProperty n)) (accepted b (StrikeProperty n)) b k k
-step w b Open u k = go b.change k
+step w b q u k = after (λ x. Copies w x.change) b q (new q u) k
   where
-    go : (c : Option Opened) → Copies w c → Copies w (fed (record { policy = b.policy; settings = b.settings; grants = b.grants; properties = b.properties; change = c }) Open).change
-    go (Some o) k = k
-    go None k = let e = k.is in let z : ◌≡◌ {A = ℕ} 0 1 = cc in absurd (omega arith)
-step w b Adopt u k = differ (sym u)
-step w b Withdraw u k = differ (sym u)
-step w b AskSettings u k = k
-step w b AskContexts u k = k
-step w b AskCapacity u k = k
-step w b (AskWritten s t) u k = k
-step w b (AskPermitted s t) u k = k
+    new : (q : Request) → undeciding q ≡ true → refusal b q ≡ None → Copies w (accepted b q).change
+    new (Set s t ops) u e = record { what = record { copy = k.what.copy; notes = k.what.notes + 1 }; is = ap one_more k.is; copies = k.copies }
+    new (EnterGrant n g) u e = k
+    new (StrikeGrant n) u e = k
+    new (EnterProperty n p) u e = k
+    new (StrikeProperty n) u e = k
+    new Open u e = let is = k.is in let h : is_some b.change ≡ true = rw is refl in let z : refusal b Open ≡ Some OpenAlready = rw h refl in absurd (grind arith)
+    new Adopt u e = differ (sym u)
+    new Withdraw u e = differ (sym u)
+    new AskSettings u e = k
+    new AskContexts u e = k
+    new AskCapacity u e = k
+    new (AskWritten s t) u e = k
+    new (AskPermitted s t) u e = k
 
 -- so do all of them
 steps : (w : Matrix) (b : Book) (qs : List Request) → all_undeciding qs ≡ true → Copies w b.change → Copies w (fed_all b qs).change

@@ -1,5 +1,5 @@
 -- When a book stands on a sheet, and what a call is to do to it.
-use Rattle.std.specs.Prelude.{◌≡◌, ℕ, cond, List, length, Some, None, Ok, Err, Option, Result}
+use Rattle.std.specs.Prelude.{◌≡◌, ℕ, cond, List, length, Some, None, Ok, Err, Option, Result, IfSome}
 use Rattle.access.specs.Operations.{unknown}
 use Rattle.access.specs.Contexts.{both_inside}
 use Rattle.access.specs.Policy.{Meaning}
@@ -19,11 +19,6 @@ abbrev pub opened : Option (List Note) → Meaning → Option Opened
 opened None m = None
 opened (Some notes) m = Some (record { copy = (undo notes m).written; notes = length notes })
 
--- the notes of an open change can be undone
-abbrev pub ChangeUndoable : Option (List Note) → Meaning → Type 0
-ChangeUndoable None m = Unit {0}
-ChangeUndoable (Some notes) m = Undoable notes m
-
 -- the book that a sheet shows, over a policy that means `meaning`
 abbrev pub shown : {P : Type 0} → (P → Meaning) → Sheet P → Book
 shown meaning sheet = record {
@@ -37,7 +32,7 @@ shown meaning sheet = record {
 -- a book stands on a sheet: the sheet shows it, and the notes of an open change can be undone
 pub record Stands {P : Type 0} (meaning : P → Meaning) (b : Book) (sheet : Sheet P) : Type 0 where
   pub shows : b ≡ shown meaning sheet
-  pub undoable : ChangeUndoable sheet.change (meaning sheet.policy)
+  pub undoable : IfSome sheet.change (λ notes. Undoable notes (meaning sheet.policy))
 
 -- a call: whatever book stood on the sheet, the result tells its refusal, and the book fed with the request stands afterwards
 abbrev pub Serves : {P R : Type 0} → (P → Meaning) → (Option Refusal → R) → Request → Sheet P → R → Sheet P → Type 0

@@ -10,14 +10,14 @@ use std::marker::Model;
 const MOST_NOTES: usize = 128;
 
 /// The first `count` of the list are the notes, in the order in which they came.
-// An array and a length: a sheet has fixed memory and no heap.
 #[derive(Drop)]
 pub(crate) struct Notes {
+    // an array and a count: a sheet has fixed memory and no heap
     list: [Note; MOST_NOTES],
     count: usize,
 }
 
-/// Seen as a list of notes, the latest first.
+// Clauses see the notes, the latest first.
 impl Model for Notes {
     ghost use Rattle.std.specs.Prelude.{List, ◌≤◌};
     ghost use Rattle.sheet.specs.declared.note.Note.{Note};
