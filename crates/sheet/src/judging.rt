@@ -10,6 +10,7 @@ use access::refusal::Refusal;
 use judge::judge::judge;
 use judge::verdict::Verdict;
 use lent::Cleared;
+use moves::regime::Regime;
 use moves::step::Step;
 use search::Place;
 
@@ -27,14 +28,13 @@ impl<P: Policy> Sheet<P> {
         ensures ticks { ticks.new ≡ replicate (length ticks.old) 0 }
     {
         match self.properties.standing(number) {
-            Ok(property) => judge(
-                &self.policy,
-                self.grants.all(),
-                property,
-                ticks,
-                places,
-                steps,
-            ),
+            Ok(property) => {
+                let regime = Regime {
+                    policy: &self.policy,
+                    grants: self.grants.all(),
+                };
+                judge(&regime, property, ticks, places, steps)
+            }
             Err(why) => {
                 let _cleared = Cleared::over(ticks);
                 Err(why)
