@@ -22,7 +22,7 @@ use seek::measure::measure;
 use seek::seek::seek;
 
 /// A source, and in how many steps a flow leads from it.
-#[derive(Clone, Copy)]
+#[derive(Clone, Copy, Debug, PartialEq, Eq)]
 pub(crate) struct Near {
     pub(crate) source: u16,
     pub(crate) steps: usize,

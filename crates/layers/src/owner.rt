@@ -11,7 +11,7 @@ use access::operation_set::OperationSet;
 use access::policy::Policy;
 
 /// Leaves the constrained operations only between contexts of one owner.
-#[derive(Clone, Copy)]
+#[derive(Clone, Copy, Debug, PartialEq, Eq)]
 pub struct Owners {
     pub owners: Labels,
     pub constrained: OperationSet,

@@ -11,7 +11,7 @@ pub enum Template {
 }
 
 /// A property: a template and its sets. A domain uses the first set alone.
-#[derive(Clone, Copy)]
+#[derive(Clone, Copy, Debug, PartialEq, Eq)]
 pub struct Property {
     pub template: Template,
     pub first: ContextSet,

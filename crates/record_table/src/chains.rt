@@ -9,7 +9,7 @@ use std::array;
 pub(crate) const UNUSED: u16 = 0;
 
 /// One record of a chain: the next one's number is 0 where the chain ends.
-#[derive(Clone, Copy)]
+#[derive(Clone, Copy, Debug, PartialEq, Eq)]
 pub struct Record {
     pub(crate) target: u16,
     pub(crate) operations: OperationSet,
@@ -30,7 +30,7 @@ impl Record {
 }
 
 /// The records, and the number of each chain's first one, or 0.
-#[derive(Clone, Copy)]
+#[derive(Clone, Copy, Debug, PartialEq, Eq)]
 pub struct Chains {
     pub(crate) heads: [u16; 257],
     pub(crate) slots: [Record; 1024],

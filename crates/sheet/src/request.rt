@@ -4,7 +4,7 @@ use moves::grant::Grant;
 use properties::property::Property;
 
 /// A call with its arguments.
-#[derive(Clone, Copy)]
+#[derive(Clone, Copy, Debug, PartialEq, Eq)]
 pub enum Request {
     Set {
         subject: u16,
