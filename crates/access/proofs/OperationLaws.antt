@@ -1,14 +1,15 @@
 -- Sets of operations: the lowest one by trailing zeros, and sets given by a test.
-use Rattle.std.proofs.Common.{◌≡◌, ℕ, zero, suc, ◌/◌, ◌%◌, ◌^◌, ◌<◌, ◌≤◌, Bool, true, false, cond, ◌&&◌, ◌||◌, T, eqb, ltb, Some, None, Option, sym, refl, ap, ◌∙◌, subst, ap₂, ⊎_elim, arith, eqb→eq, MatchOption}
+use Rattle.std.proofs.Common.{◌≡◌, ℕ, zero, suc, ◌/◌, ◌%◌, ◌^◌, ◌<◌, ◌≤◌, Bool, true, false, cond, ◌&&◌, ◌||◌, T, eqb, ltb, Ok, Err, Result, sym, refl, ap, ◌∙◌, subst, ap₂, ⊎_elim, arith, eqb→eq, MatchOption}
 use lib.Count.{count_trailing_zeros, under}
 use lib.ListN.{get_or-eq_default}
 use Rattle.std.proofs.lemmas.Bool.{cases_eq, cases_lt}
 use Rattle.std.proofs.lemmas.Bool.Decides.{nat_tests}
-use Rattle.access.specs.Operations.{number_of, kinds, kind_of, has, set_of, Lowest, LacksAll}
+use Rattle.std.specs.Result.{result_ok}
+use Rattle.access.specs.Operations.{number_of, Numbered, kinds, kind_of, has, set_of, Lowest, LacksAll}
 use Rattle.access.specs.declared.operation.Kind.{Kind}
 use Rattle.access.specs.declared.operation.Kind.TheVariants.{Neither}
 use Rattle.access.specs.declared.operation.Operation.{Operation}
-use Rattle.access.specs.declared.operation.Operation.TheVariants.{Read, Write, Append, Update, Execute, Become, Stat, Lock, Unlock, Signal, Send, Receive}
+use Rattle.access.specs.declared.operation.UnknownOperation.{UnknownOperation}
 use Rattle.access.proofs.Bits.{has_zero, has_suc, has_or, has_none, has_power}
 use Rattle.access.proofs.Tests.{T_true, T_false}
 
@@ -40,30 +41,18 @@ pub trailing_lowest : (k n o : ℕ) → T (has n o) → o < k → T (has n (coun
 trailing_lowest k n o h b = let l = trailing_below k n o h b in (trailing_has k n (omega arith), l)
 
 pub number_below : (o : Operation) → number_of o < 12
-number_below Read = omega arith
-number_below Write = omega arith
-number_below Append = omega arith
-number_below Update = omega arith
-number_below Execute = omega arith
-number_below Become = omega arith
-number_below Stat = omega arith
-number_below Lock = omega arith
-number_below Unlock = omega arith
-number_below Signal = omega arith
-number_below Send = omega arith
-number_below Receive = omega arith
+number_below o = grind arith
 
 -- no operation below the trailing zeros is in the set
 none_under : (set k o : ℕ) → o < count_trailing_zeros k set → o < k → has set o ≡ false
 none_under set k o l b = T_false (has set o) (λ h. omega (arith, trailing_below k set o h b))
 
-pub lowest_told : (set z : ℕ) → z ≡ count_trailing_zeros 16 set → (r : Option Operation) → MatchOption r (12 ≤ z) (λ o. number_of o ≡ z) → MatchOption r (LacksAll set) (λ o. Lowest set (number_of o))
-lowest_told set z e None h = λ o b. none_under set 16 o (omega arith) (omega arith)
-lowest_told set z e (Some o) h =
+pub lowest_told : (set : ℕ) (r : Result Operation UnknownOperation) → Numbered (count_trailing_zeros 16 set) r → MatchOption (result_ok r) (LacksAll set) (λ o. Lowest set (number_of o))
+lowest_told set (Err e) h = λ o b. none_under set 16 o (omega (arith, h)) (omega arith)
+lowest_told set (Ok o) h =
     let b = number_below o in
-    let z_is : number_of o ≡ count_trailing_zeros 16 set = h ∙ e in
     record {
-      held = T_true (has set (number_of o)) (subst (λ k. T (has set k)) (sym z_is) (trailing_has 16 set (omega arith)));
+      held = T_true (has set (number_of o)) (subst (λ k. T (has set k)) (sym h) (trailing_has 16 set (omega arith)));
       none_below = λ k l. none_under set 16 k (omega arith) (omega arith);
     }
 
@@ -76,13 +65,7 @@ has_cond false k o = has_none o
 pub has_set_of : (test : ℕ → Bool) (k o : ℕ) → has (set_of test k) o ≡ (ltb o k && test o)
 has_set_of test zero o = has_none o ∙ grind (arith, nat_tests)
 has_set_of test (suc k) o =
-    has_or (cond (test k) (2 ^ k) 0) (set_of test k) o ∙ ap₂ ◌||◌ (has_cond (test k) k o) (has_set_of test k o) ∙ ⊎_elim there elsewhere (cases_eq o k)
-  where
-    there : o ≡ k → ((test k && eqb k o) || (ltb o k && test o)) ≡ (ltb o (suc k) && test o)
-    there e = grind (arith, nat_tests)
-
-    elsewhere : (o ≡ k → ⊥) → ((test k && eqb k o) || (ltb o k && test o)) ≡ (ltb o (suc k) && test o)
-    elsewhere n = grind (arith, nat_tests)
+    has_or (cond (test k) (2 ^ k) 0) (set_of test k) o ∙ ap₂ ◌||◌ (has_cond (test k) k o) (has_set_of test k o) ∙ ⊎_elim (λ (e : o ≡ k). grind (arith, nat_tests)) (λ (n : o ≡ k → ⊥). grind (arith, nat_tests)) (cases_eq o k)
 
 -- an operation of a kind that `Neither` is not of is one of the twelve
 pub kind_below : (test : Kind → Bool) (o : ℕ) → (T (test Neither) → ⊥) → T (test (kind_of o)) → o < 12

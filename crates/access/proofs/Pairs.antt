@@ -1,5 +1,5 @@
 -- How many pairs are filled after the set of one is replaced.
-use Rattle.std.proofs.Common.{◌≡◌, ℕ, zero, suc, ◌+◌, ◌≤◌, ◌⊎◌, sym, refl, ap, subst, ap₂, inl, inr, ⊎_elim, arith}
+use Rattle.std.proofs.Common.{◌≡◌, ℕ, zero, suc, ◌+◌, ◌≤◌, ◌⊎◌, sym, refl, ap, ◌∙◌, ap₂, inl, inr, ⊎_elim, arith}
 use Rattle.std.proofs.lemmas.Bool.{cases_eq}
 use Rattle.std.proofs.lemmas.Bool.Decides.{nat_tests}
 use Rattle.access.specs.Policy.{Matrix, with_pair}
@@ -11,75 +11,69 @@ with_same w s t v = grind (arith, nat_tests)
 pub with_other : (w : Matrix) (s t v x y : ℕ) → (x ≡ s → ⊥) ⊎ (y ≡ t → ⊥) → with_pair w s t v x y ≡ w x y
 with_other w s t v x y h = grind (arith, nat_tests)
 
--- what a row has depends on its targets from 1 to n alone
+-- ---- a row and all rows are totals from 1 on
+
+abbrev total : (ℕ → ℕ) → ℕ → ℕ
+total f zero = 0
+total f (suc n) = total f n + f (suc n)
+
+row_is : (w : Matrix) (s n : ℕ) → row w s n ≡ total (λ t. some (w s t)) n
+unfolding row
+row_is w s zero = refl
+row_is w s (suc n) = ap (λ a. a + some (w s (suc n))) (row_is w s n)
+
+pairs_is : (w : Matrix) (k n : ℕ) → pairs w k n ≡ total (λ s. row w s n) k
+unfolding pairs
+pairs_is w zero n = refl
+pairs_is w (suc k) n = ap (λ a. a + row w (suc k) n) (pairs_is w k n)
+
+total_alike : (f g : ℕ → ℕ) (n : ℕ) → ((y : ℕ) → 1 ≤ y → y ≤ n → f y ≡ g y) → total f n ≡ total g n
+total_alike f g zero h = refl
+total_alike f g (suc n) h = ap₂ (λ a b. a + b) (total_alike f g n (λ y l k. h y l (omega arith))) (h (suc n) (omega arith) (omega arith))
+
+-- where one place alone differs
+total_with : (f g : ℕ → ℕ) (t n : ℕ) → 1 ≤ t → t ≤ n → ((y : ℕ) → (y ≡ t → ⊥) → f y ≡ g y) → total f n + g t ≡ total g n + f t
+total_with f g t zero low high h = absurd (omega arith)
+total_with f g t (suc n) low high h = ⊎_elim
+    (λ (e : t ≡ suc n). let front = total_alike f g n (λ y _ k. h y (λ p. omega arith)) in rw e (omega (arith, front)))
+    (λ (ne : t ≡ suc n → ⊥). omega (arith, total_with f g t n low (omega arith) h, h (suc n) (λ p. ne (sym p))))
+    (cases_eq t (suc n))
+
+total_none : (f : ℕ → ℕ) (n : ℕ) → ((y : ℕ) → f y ≡ 0) → total f n ≡ 0
+total_none f zero h = refl
+total_none f (suc n) h = omega (arith, total_none f n h, h (suc n))
+
+total_most : (f : ℕ → ℕ) (t n : ℕ) → 1 ≤ t → t ≤ n → f t ≤ total f n
+total_most f t zero low high = absurd (omega arith)
+total_most f t (suc n) low high = ⊎_elim (λ e. rw e (omega arith)) (λ ne. omega (arith, total_most f t n low (omega arith))) (cases_eq t (suc n))
+
+-- ---- what a row and all rows have depends on their places from 1 on alone
+
 pub row_alike : (w u : Matrix) (x n : ℕ) → ((y : ℕ) → 1 ≤ y → y ≤ n → w x y ≡ u x y) → row w x n ≡ row u x n
-unfolding row
-row_alike w u x zero h = refl
-row_alike w u x (suc n) h = ap₂ (λ a b. a + some b) (row_alike w u x n (λ y l k. h y l (omega arith))) (h (suc n) (omega arith) (omega arith))
-
-row_same : (w u : Matrix) (x n : ℕ) → ((y : ℕ) → y ≤ n → w x y ≡ u x y) → row w x n ≡ row u x n
-row_same w u x n h = row_alike w u x n (λ y _ k. h y k)
-
-pub row_with : (w : Matrix) (s t v n : ℕ) → 1 ≤ t → t ≤ n → row (with_pair w s t v) s n + some (w s t) ≡ row w s n + some v
-unfolding row
-row_with w s t v zero low high = absurd (omega arith)
-row_with w s t v (suc n) low high = ⊎_elim at_end (before (λ h. row_with w s t v n low h)) (cases_eq t (suc n))
-  where
-    at_end : t ≡ suc n → row (with_pair w s t v) s (suc n) + some (w s t) ≡ row w s (suc n) + some v
-    at_end e =
-        let front : row (with_pair w s t v) s n ≡ row w s n = row_same (with_pair w s t v) w s n (λ y k. with_other w s t v s y (inr (λ p. omega arith))) in
-        let last : some (with_pair w s t v s (suc n)) ≡ some v = ap some (rw (sym e) (with_same w s t v)) in
-        let old : some (w s (suc n)) ≡ some (w s t) = rw e refl in
-        omega (arith, front, last, old)
-
-    before : (t ≤ n → row (with_pair w s t v) s n + some (w s t) ≡ row w s n + some v) → (t ≡ suc n → ⊥) → row (with_pair w s t v) s (suc n) + some (w s t) ≡ row w s (suc n) + some v
-    before below ne =
-        let front : row (with_pair w s t v) s n + some (w s t) ≡ row w s n + some v = below (omega arith) in
-        let last : some (with_pair w s t v s (suc n)) ≡ some (w s (suc n)) = ap some (with_other w s t v s (suc n) (inr (λ p. ne (sym p)))) in
-        omega (arith, front, last)
+row_alike w u x n h = row_is w x n ∙ total_alike _ _ n (λ y l k. ap some (h y l k)) ∙ sym (row_is u x n)
 
 pub pairs_alike : (w u : Matrix) (k n : ℕ) → ((x y : ℕ) → 1 ≤ x → x ≤ k → 1 ≤ y → y ≤ n → w x y ≡ u x y) → pairs w k n ≡ pairs u k n
-unfolding pairs
-pairs_alike w u zero n h = refl
-pairs_alike w u (suc k) n h = ap₂ (λ a b. a + b) (pairs_alike w u k n (λ x y a b c d. h x y a (omega arith) c d)) (row_alike w u (suc k) n (λ y c d. h (suc k) y (omega arith) (omega arith) c d))
+pairs_alike w u k n h = pairs_is w k n ∙ total_alike _ _ k (λ x a b. row_alike w u x n (λ y c d. h x y a b c d)) ∙ sym (pairs_is u k n)
 
-pub pairs_same : (w u : Matrix) (k n : ℕ) → ((x y : ℕ) → x ≤ k → w x y ≡ u x y) → pairs w k n ≡ pairs u k n
-pairs_same w u k n h = pairs_alike w u k n (λ x y _ q _ _. h x y q)
+pub row_with : (w : Matrix) (s t v n : ℕ) → 1 ≤ t → t ≤ n → row (with_pair w s t v) s n + some (w s t) ≡ row w s n + some v
+row_with w s t v n low high =
+    let new : Matrix = with_pair w s t v in
+    let h = total_with (λ y. some (new s y)) (λ y. some (w s y)) t n low high (λ y ne. ap some (with_other w s t v s y (inr ne))) in
+    omega (arith, row_is new s n, row_is w s n, h, ap some (with_same w s t v))
 
 pub pairs_with : (w : Matrix) (s t v k n : ℕ) → 1 ≤ s → s ≤ k → 1 ≤ t → t ≤ n → pairs (with_pair w s t v) k n + some (w s t) ≡ pairs w k n + some v
-unfolding pairs
-pairs_with w s t v zero n low high from to = absurd (omega arith)
-pairs_with w s t v (suc k) n low high from to = ⊎_elim at_end (before (λ h. pairs_with w s t v k n low h from to)) (cases_eq s (suc k))
-  where
-    at_end : s ≡ suc k → pairs (with_pair w s t v) (suc k) n + some (w s t) ≡ pairs w (suc k) n + some v
-    at_end e =
-        let front : pairs (with_pair w s t v) k n ≡ pairs w k n = pairs_same (with_pair w s t v) w k n (λ x y q. with_other w s t v x y (inl (λ p. omega arith))) in
-        let last : row (with_pair w s t v) (suc k) n + some (w s t) ≡ row w (suc k) n + some v =
-        subst (λ (z : ℕ). row (with_pair w s t v) z n + some (w s t) ≡ row w z n + some v) e (row_with w s t v n from to) in
-        omega (arith, front, last)
-
-    before : (s ≤ k → pairs (with_pair w s t v) k n + some (w s t) ≡ pairs w k n + some v) → (s ≡ suc k → ⊥) → pairs (with_pair w s t v) (suc k) n + some (w s t) ≡ pairs w (suc k) n + some v
-    before below ne =
-        let front : pairs (with_pair w s t v) k n + some (w s t) ≡ pairs w k n + some v = below (omega arith) in
-        let last : row (with_pair w s t v) (suc k) n ≡ row w (suc k) n = row_same (with_pair w s t v) w (suc k) n (λ y q. with_other w s t v (suc k) y (inl (λ p. ne (sym p)))) in
-        omega (arith, front, last)
+pairs_with w s t v k n low high from to =
+    let new : Matrix = with_pair w s t v in
+    let h = total_with (λ x. row new x n) (λ x. row w x n) s k low high (λ x ne. row_alike new w x n (λ y _ _. with_other w s t v x y (inl ne))) in
+    omega (arith, pairs_is new k n, pairs_is w k n, h, row_with w s t v n from to)
 
 -- with no set written no pair is filled
 pub row_none : (w : Matrix) (x n : ℕ) → ((y : ℕ) → w x y ≡ 0) → row w x n ≡ 0
-unfolding row
-row_none w x zero h = refl
-row_none w x (suc n) h = let a : row w x n ≡ 0 = row_none w x n h in let b : some (w x (suc n)) ≡ 0 = ap some (h (suc n)) in omega (arith, a, b)
+row_none w x n h = row_is w x n ∙ total_none _ n (λ y. ap some (h y))
 
 pub pairs_none : (w : Matrix) (k n : ℕ) → ((x y : ℕ) → w x y ≡ 0) → pairs w k n ≡ 0
-unfolding pairs
-pairs_none w zero n h = refl
-pairs_none w (suc k) n h = let a : pairs w k n ≡ 0 = pairs_none w k n h in let b : row w (suc k) n ≡ 0 = row_none w (suc k) n (h (suc k)) in omega (arith, a, b)
+pairs_none w k n h = pairs_is w k n ∙ total_none _ k (λ x. row_none w x n (h x))
 
 -- a subject has no more pairs than there are
 pub row_most : (w : Matrix) (s k n : ℕ) → 1 ≤ s → s ≤ k → row w s n ≤ pairs w k n
-unfolding pairs
-row_most w s zero n low high = absurd (omega arith)
-row_most w s (suc k) n low high = ⊎_elim
-    (λ e. rw e (omega arith))
-    (λ ne. let a : row w s n ≤ pairs w k n = row_most w s k n low (omega arith) in omega arith)
-    (cases_eq s (suc k))
+row_most w s k n low high = rw (pairs_is w k n) (total_most (λ x. row w x n) s k low high)

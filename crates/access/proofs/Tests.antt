@@ -36,11 +36,3 @@ cases_test false = inr (λ h. h)
 -- a test has one answer
 pub differ : {A : Type 0} → true ≡ false → A
 differ e = let z : ◌≡◌ {A = ℕ} 0 1 = cc in absurd (omega arith)
-
-pub or_true : (b : Bool) → (b || true) ≡ true
-or_true true = refl
-or_true false = refl
-
-pub and_false : (b : Bool) → (b && false) ≡ false
-and_false true = refl
-and_false false = refl

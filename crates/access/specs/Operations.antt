@@ -1,8 +1,9 @@
 -- The twelve operations, their kinds, and sets of operations: bit o of a number stands for operation o.
-use Rattle.std.specs.Prelude.{◌≡◌, ℕ, zero, suc, ◌-◌, ◌/◌, ◌%◌, ◌^◌, ◌<◌, Bool, true, false, cond, List, [], ◌∷◌, codes, ◌==◌, bit_and, bit_or, nat_le, slice_index_or}
+use Rattle.std.specs.Prelude.{◌≡◌, ℕ, zero, suc, ◌-◌, ◌/◌, ◌%◌, ◌^◌, ◌<◌, ◌≤◌, Result, MatchResult, Bool, true, false, cond, List, [], ◌∷◌, codes, ◌==◌, bit_and, bit_or, nat_le, slice_index_or}
 use Rattle.access.specs.declared.operation.Kind.{Kind}
 use Rattle.access.specs.declared.operation.Kind.TheVariants.{Reads, Writes, ReadsAndWrites, Executes, Becomes, Neither}
 use Rattle.access.specs.declared.operation.Operation.{Operation}
+use Rattle.access.specs.declared.operation.UnknownOperation.{UnknownOperation}
 use Rattle.access.specs.declared.operation.Operation.TheVariants.{Read, Write, Append, Update, Execute, Become, Stat, Lock, Unlock, Signal, Send, Receive}
 
 abbrev pub number_of : Operation → ℕ
@@ -18,6 +19,10 @@ number_of Unlock = 8
 number_of Signal = 9
 number_of Send = 10
 number_of Receive = 11
+
+-- the operation with a number, or an error with a number that none of the twelve has
+abbrev pub Numbered : ℕ → Result Operation UnknownOperation → Type 0
+Numbered number r = MatchResult r (λ o. number_of o ≡ number) (λ e. (e.0 ≡ number) × (12 ≤ number))
 
 abbrev pub name_of : Operation → List ℕ
 name_of Read = codes "read"

@@ -1,9 +1,12 @@
 //! The twelve operations and their kinds.
-ghost use Rattle.std.specs.Prelude.{◌≡◌, ◌≤◌, MatchOption};
-ghost use Rattle.access.specs.Operations.{number_of, kind_of, name_of};
+ghost use Rattle.std.specs.Prelude.{◌≡◌, Some};
+ghost use Rattle.access.specs.Operations.{number_of, kind_of, name_of, Numbered};
+
+use std::error::Error;
+use std::fmt;
 
 /// What an operation does: which way information goes by it, if any.
-#[derive(Clone, Copy)]
+#[derive(Clone, Copy, Debug, PartialEq, Eq, Hash)]
 pub enum Kind {
     Reads,
     Writes,
@@ -14,7 +17,7 @@ pub enum Kind {
 }
 
 /// An operation that a subject may do on a target. Its number is its place in this list, from 0.
-#[derive(Clone, Copy)]
+#[derive(Clone, Copy, Debug, PartialEq, Eq, Hash)]
 pub enum Operation {
     Read,
     Write,
@@ -30,34 +33,11 @@ pub enum Operation {
     Receive,
 }
 
+/// A number that none of the twelve operations has.
+#[derive(Clone, Copy, Debug, PartialEq, Eq, Hash)]
+pub struct UnknownOperation(pub u8);
+
 impl Operation {
-    pub fn number(self) -> u8
-        ensures { result ≡ number_of self }
-    {
-        self as u8
-    }
-
-    /// The operation with a number, if one of the twelve has it.
-    pub fn numbered(number: u8) -> Option<Operation>
-        ensures { MatchOption result (12 ≤ number) (λ o. number_of o ≡ number) }
-    {
-        match number {
-            0 => Some(Operation::Read),
-            1 => Some(Operation::Write),
-            2 => Some(Operation::Append),
-            3 => Some(Operation::Update),
-            4 => Some(Operation::Execute),
-            5 => Some(Operation::Become),
-            6 => Some(Operation::Stat),
-            7 => Some(Operation::Lock),
-            8 => Some(Operation::Unlock),
-            9 => Some(Operation::Signal),
-            10 => Some(Operation::Send),
-            11 => Some(Operation::Receive),
-            _ => None,
-        }
-    }
-
     pub fn kind(self) -> Kind
         ensures { result ≡ kind_of (number_of self) }
     {
@@ -93,3 +73,51 @@ impl Operation {
         }
     }
 }
+
+impl From<Operation> for u8 {
+    ghost from_gives = { λ operation number. number ≡ number_of operation };
+
+    fn from(operation: Operation) -> u8 {
+        operation as u8
+    }
+}
+
+impl TryFrom<u8> for Operation {
+    type Error = UnknownOperation;
+
+    ghost try_from_gives = { Numbered };
+
+    fn try_from(number: u8) -> Result<Operation, UnknownOperation> {
+        match number {
+            0 => Ok(Operation::Read),
+            1 => Ok(Operation::Write),
+            2 => Ok(Operation::Append),
+            3 => Ok(Operation::Update),
+            4 => Ok(Operation::Execute),
+            5 => Ok(Operation::Become),
+            6 => Ok(Operation::Stat),
+            7 => Ok(Operation::Lock),
+            8 => Ok(Operation::Unlock),
+            9 => Ok(Operation::Signal),
+            10 => Ok(Operation::Send),
+            11 => Ok(Operation::Receive),
+            _ => Err(UnknownOperation(number)),
+        }
+    }
+}
+
+impl fmt::Display for Operation {
+    ghost output = { λ operation. Some (name_of operation) };
+
+    fn fmt<W: fmt::Write>(&self, f: &mut fmt::Formatter<W>) -> fmt::Result {
+        f.write_str(self.name())
+    }
+}
+
+impl fmt::Display for UnknownOperation {
+    fn fmt<W: fmt::Write>(&self, f: &mut fmt::Formatter<W>) -> fmt::Result {
+        write!(f, "no operation has number {}", self.0)
+    }
+}
+
+impl Error for UnknownOperation {}

@@ -5,7 +5,7 @@ ghost use Rattle.access.specs.Operations.{number_of, has, one, without, unknown,
 use crate::operation::Operation;
 
 /// Sixteen bits; bit o stands for operation o. Bits 12 to 15 stand for none, and no policy keeps them.
-#[derive(Clone, Copy)]
+#[derive(Clone, Copy, Debug, Default, PartialEq, Eq, Hash)]
 pub struct OperationSet {
     pub bits: u16,
 }
@@ -27,40 +27,49 @@ impl OperationSet {
     pub fn read_like() -> OperationSet
         ensures { result.bits ≡ set_of read_op 12 }
     {
-        OperationSet { bits: 2121 }
+        OperationSet::none()
+            .with(Operation::Read)
+            .with(Operation::Update)
+            .with(Operation::Stat)
+            .with(Operation::Receive)
     }
 
     /// The operations by which a subject gives information to a target.
     pub fn write_like() -> OperationSet
         ensures { result.bits ≡ set_of write_op 12 }
     {
-        OperationSet { bits: 1550 }
+        OperationSet::none()
+            .with(Operation::Write)
+            .with(Operation::Append)
+            .with(Operation::Update)
+            .with(Operation::Signal)
+            .with(Operation::Send)
     }
 
     pub fn execute() -> OperationSet
         ensures { result.bits ≡ set_of execute_op 12 }
     {
-        OperationSet { bits: 16 }
+        OperationSet::none().with(Operation::Execute)
     }
 
     /// The operation by which a program takes on another context.
     pub fn transition() -> OperationSet
         ensures { result.bits ≡ set_of become_op 12 }
     {
-        OperationSet { bits: 32 }
+        OperationSet::none().with(Operation::Become)
     }
 
     pub fn has(self, operation: Operation) -> bool
         ensures { result ≡ has self.bits (number_of operation) }
     {
-        (self.bits >> operation.number()) & 1 == 1
+        (self.bits >> u8::from(operation)) & 1 == 1
     }
 
     pub fn with(self, operation: Operation) -> OperationSet
         ensures { result.bits ≡ bit_or self.bits (one (number_of operation)) }
     {
         OperationSet {
-            bits: self.bits | 1 << operation.number(),
+            bits: self.bits | 1 << u8::from(operation),
         }
     }
 
@@ -108,6 +117,6 @@ impl OperationSet {
     pub fn lowest(self) -> Option<Operation>
         ensures { MatchOption result (LacksAll self.bits) (λ o. Lowest self.bits (number_of o)) }
     {
-        Operation::numbered(self.bits.trailing_zeros() as u8)
+        Operation::try_from(self.bits.trailing_zeros() as u8).ok()
     }
 }

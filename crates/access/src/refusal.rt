@@ -2,8 +2,11 @@
 ghost use Rattle.std.specs.Prelude.{◌≡◌};
 ghost use Rattle.access.specs.Refusals.{refusal_number};
 
+use std::error::Error;
+use std::fmt;
+
 /// Why a call, or a policy text, is refused. Of several that apply, the first in this list is answered.
-#[derive(Clone, Copy)]
+#[derive(Clone, Copy, Debug, PartialEq, Eq, Hash)]
 pub enum Refusal {
     /// A grant or property number is outside its range.
     NumberOutside,
@@ -41,11 +44,40 @@ pub enum Refusal {
     UnfitName,
 }
 
-impl Refusal {
-    /// The number by which a refusal is reported, 1 to 17.
-    pub fn number(self) -> u8
-        ensures { result ≡ refusal_number self }
-    {
-        self as u8 + 1
+/// The number by which a refusal is reported, 1 to 17.
+impl From<Refusal> for u8 {
+    ghost from_gives = { λ refusal number. number ≡ refusal_number refusal };
+
+    fn from(refusal: Refusal) -> u8 {
+        refusal as u8 + 1
     }
 }
+
+impl fmt::Display for Refusal {
+    fn fmt<W: fmt::Write>(&self, f: &mut fmt::Formatter<W>) -> fmt::Result {
+        f.write_str(match self {
+            Refusal::NumberOutside => "a grant or property number is outside its range",
+            Refusal::StandsAlready => "the number to be entered stands already",
+            Refusal::StandsNot => "the number to be struck or judged does not stand",
+            Refusal::ContextOutside => "a context of a setting is outside 1 to n",
+            Refusal::UnfitOperations =>
+                "an operation set holds an unknown operation, or a grant's is empty",
+            Refusal::UnfitSet =>
+                "a set has a member above n, or is empty or filled where it may not be",
+            Refusal::SharedContext => "the two sets of a property share a context",
+            Refusal::OpenAlready => "a change is open already",
+            Refusal::NoneOpen => "no change is open",
+            Refusal::NotesFull => "the open change notes 128 settings already",
+            Refusal::PolicyFull => "the policy has no room for one pair more",
+            Refusal::ShortMemory => "working memory or report memory is too short",
+            Refusal::LongText => "the text is longer than 65,536 bytes",
+            Refusal::UnfitLine =>
+                "a line is too long, without its line feed, ill-formed or out of order",
+            Refusal::ContextCount => "no context is declared, or more than 256 are",
+            Refusal::UnfitWord => "a word has not its shape",
+            Refusal::UnfitName => "a name is unknown, or declared again",
+        })
+    }
+}
+
+impl Error for Refusal {}

@@ -12,23 +12,23 @@ pub trait Activity {
     /// How many phases there are.
     const PHASES: usize;
 
-    ghost kind: { Search };
+    /// Whether the moves of the last phase are made in reverse, since information comes back by them.
+    const BACKWARDS: bool;
 
-    ghost back: { Bool };
+    ghost PHASES: { ℕ };
+
+    ghost BACKWARDS: { Bool };
+
+    ghost kind: { Search };
 
     /// The activities of this kind from one context to another.
     ghost activities: { ℕ → ℕ → List Moving → Type 0 };
-
-    fn phase_count() -> usize
-        ensures { result ≡ kind.phases };
-
-    /// Whether the moves of the last phase are made in reverse, since information comes back by them.
-    fn backwards() -> bool
-        ensures { result ≡ back };
 
     /// The move by which an activity goes on from one context to another in a phase.
     fn step(phase: usize, from: u16, to: u16) -> Move
         ensures { moved result ≡ kind.move phase from to };
 
-    ghost lawful: { KindLaws kind back activities };
+    ghost counted: { PHASES ≡ kind.phases };
+
+    ghost lawful: { KindLaws kind BACKWARDS activities };
 }

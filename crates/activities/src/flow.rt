@@ -1,5 +1,5 @@
 //! Flows: information comes in to one context.
-ghost use Rattle.std.specs.Prelude.{true};
+ghost use Rattle.std.specs.Prelude.{true, refl};
 ghost use Rattle.verdicts.specs.Activities.{Flow as Flows};
 ghost use Rattle.verdicts.specs.Searches.{flowing};
 ghost use Rattle.activities.specs.KindLaws.{flow_laws};
@@ -13,21 +13,19 @@ pub struct Flow;
 impl Activity for Flow {
     const PHASES: usize = 1;
 
-    ghost kind = { flowing };
+    const BACKWARDS: bool = true;
 
-    ghost back = { true };
+    ghost PHASES = { 1 };
+
+    ghost BACKWARDS = { true };
+
+    ghost kind = { flowing };
 
     ghost activities = { Flows };
 
+    ghost counted = { refl };
+
     ghost lawful = { flow_laws };
-
-    fn phase_count() -> usize {
-        Self::PHASES
-    }
-
-    fn backwards() -> bool {
-        true
-    }
 
     fn step(_phase: usize, from: u16, to: u16) -> Move {
         Move::Transfer(to, from)

@@ -1,5 +1,5 @@
 //! Pulls: information comes in to where transitions lead.
-ghost use Rattle.std.specs.Prelude.{true};
+ghost use Rattle.std.specs.Prelude.{true, refl};
 ghost use Rattle.verdicts.specs.Activities.{Pull as Pulls};
 ghost use Rattle.verdicts.specs.Searches.{pulling};
 ghost use Rattle.activities.specs.KindLaws.{pull_laws};
@@ -13,21 +13,19 @@ pub struct Pull;
 impl Activity for Pull {
     const PHASES: usize = 2;
 
-    ghost kind = { pulling };
+    const BACKWARDS: bool = true;
 
-    ghost back = { true };
+    ghost PHASES = { 2 };
+
+    ghost BACKWARDS = { true };
+
+    ghost kind = { pulling };
 
     ghost activities = { Pulls };
 
+    ghost counted = { refl };
+
     ghost lawful = { pull_laws };
-
-    fn phase_count() -> usize {
-        Self::PHASES
-    }
-
-    fn backwards() -> bool {
-        true
-    }
 
     fn step(phase: usize, from: u16, to: u16) -> Move {
         if phase == 0 {

@@ -1,5 +1,5 @@
 //! Pushes: information goes out from where transitions lead.
-ghost use Rattle.std.specs.Prelude.{false};
+ghost use Rattle.std.specs.Prelude.{false, refl};
 ghost use Rattle.verdicts.specs.Activities.{Push as Pushes};
 ghost use Rattle.verdicts.specs.Searches.{pushing};
 ghost use Rattle.activities.specs.KindLaws.{push_laws};
@@ -13,21 +13,19 @@ pub struct Push;
 impl Activity for Push {
     const PHASES: usize = 2;
 
-    ghost kind = { pushing };
+    const BACKWARDS: bool = false;
 
-    ghost back = { false };
+    ghost PHASES = { 2 };
+
+    ghost BACKWARDS = { false };
+
+    ghost kind = { pushing };
 
     ghost activities = { Pushes };
 
+    ghost counted = { refl };
+
     ghost lawful = { push_laws };
-
-    fn phase_count() -> usize {
-        Self::PHASES
-    }
-
-    fn backwards() -> bool {
-        false
-    }
 
     fn step(phase: usize, from: u16, to: u16) -> Move {
         if phase == 0 {

@@ -1,7 +1,12 @@
 //! A table with a place for one entry under each number from 1 to N.
 ghost use Rattle.std.specs.Prelude.{◌≡◌, is_some, None};
-ghost use Rattle.entries.specs.Entries.{put_within, listed, in_order};
+ghost use Rattle.access.specs.Refusals.{answer, when_accepted};
+ghost use Rattle.entries.specs.Entries.{put, put_within, listed, in_order};
 ghost use Rattle.entries.specs.Held.{held};
+ghost use Rattle.entries.specs.Standing.{entry_at, entering_refusal, striking_refusal};
+
+use access::numbers::index_in;
+use access::refusal::Refusal;
 
 #[derive(Drop)]
 pub struct Table<E, const N: usize> {
@@ -31,11 +36,8 @@ impl<E: Copy, const N: usize> Table<E, N> {
     pub fn get(&self, number: u16) -> Option<E>
         ensures { result ≡ held self.now number }
     {
-        let n = number as usize;
-        if n < 1 || N < n {
-            return None;
-        }
-        self.entries[n - 1]
+        let index = index_in(N, number)?;
+        self.entries[index]
     }
 
     /// Whether an entry stands under a number.
@@ -43,6 +45,25 @@ impl<E: Copy, const N: usize> Table<E, N> {
         ensures { result ≡ is_some (held self.now number) }
     {
         self.get(number).is_some()
+    }
+
+    /// The entry under a number, or why there is none.
+    pub fn standing(&self, number: u16) -> Result<E, Refusal>
+        ensures { result ≡ entry_at N (held self.now) number }
+    {
+        let index = index_in(N, number).ok_or(Refusal::NumberOutside)?;
+        self.entries[index].ok_or(Refusal::StandsNot)
+    }
+
+    /// Whether a number is free to be entered.
+    pub fn vacant(&self, number: u16) -> Result<(), Refusal>
+        ensures { result ≡ answer (entering_refusal N (held self.now) number) }
+    {
+        let index = index_in(N, number).ok_or(Refusal::NumberOutside)?;
+        match self.entries[index] {
+            Some(_) => Err(Refusal::StandsAlready),
+            None => Ok(()),
+        }
     }
 
     /// All entries, the one under 1 first.
@@ -57,9 +78,18 @@ impl<E: Copy, const N: usize> Table<E, N> {
     pub fn put(&mut self, number: u16, entry: Option<E>)
         ensures { held self.new ≡ put_within N (held self.old) number entry }
     {
-        let n = number as usize;
-        if 1 <= n && n <= N {
-            self.entries[n - 1] = entry;
+        if let Some(index) = index_in(N, number) {
+            self.entries[index] = entry;
         }
+    }
+
+    /// Takes the entry under a number away, or is refused and alters nothing.
+    pub fn strike(&mut self, number: u16) -> Result<(), Refusal>
+        ensures told { result ≡ answer (striking_refusal N (held self.old) number) }
+        ensures done { held self.new ≡ when_accepted (striking_refusal N (held self.old) number) (put (held self.old) number None) (held self.old) }
+    {
+        self.standing(number)?;
+        self.put(number, None);
+        Ok(())
     }
 }

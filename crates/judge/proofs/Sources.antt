@@ -1,5 +1,5 @@
 -- Consistency, source by source: the nearest source gives the verdict.
-use Rattle.std.proofs.Common.{◌≡◌, ℕ, ◌+◌, ◌≤◌, Bool, true, false, ◌&&◌, ◌||◌, T, eqb, ltb, leb, List, drop, Some, None, Option, sym, subst, subst₂, ⊎_elim, arith, leb→le, T_not}
+use Rattle.std.proofs.Common.{◌≡◌, ℕ, ◌+◌, ◌-◌, ◌≤◌, Bool, true, false, ◌&&◌, ◌||◌, T, eqb, ltb, leb, List, drop, Some, None, Option, sym, subst, subst₂, ⊎_elim, arith, leb→le, T_not}
 use mathlib.Core.Path.{fun_ext}
 use lib.Dec.{not_T}
 use Rattle.std.proofs.lemmas.Bool.{cases_eq, cases_Bool, ltb-true, ltb-false, cond-true, cond-false}
@@ -68,6 +68,16 @@ module _ (m : Meaning) (gs : Grants) (A B : ℕ → Bool) (top : ℕ) where
       (λ (e : ltb k q.steps ≡ false). subst (Best m gs A B (top + 1)) (sym (cond-false (ltb k q.steps) (Some (record { source = top + 1; steps = k })) (Some q) e))
       (kept q h (λ _ ms f r. omega (arith, w.shortest ms f r, ltb-false k q.steps e))))
       (cases_Bool (ltb k q.steps))
+
+-- one source looked at: the sources up to it
+module _ (m : Meaning) (gs : Grants) (A B : ℕ → Bool) (a : ℕ) (low : 1 ≤ a) where
+  pub looked_at : (best : Option Near) (found : Option ℕ) → T (A a) → Best m gs A B (a - 1) best → Measured m gs (From m B a) found → Best m gs A B a (nearer_of best a found)
+  looked_at best found =
+      subst (λ z. T (A z) → Best m gs A B (a - 1) best → Measured m gs (From m B z) found → Best m gs A B z (nearer_of best z found)) (omega arith)
+      (best_nearer m gs A B (a - 1) best found)
+
+  pub passed_over : (best : Option Near) → false ≡ A a → Best m gs A B (a - 1) best → Best m gs A B a best
+  passed_over best = subst (λ z. false ≡ A z → Best m gs A B (a - 1) best → Best m gs A B z best) (omega arith) (best_skip m gs A B (a - 1) best)
 
 -- ---- the verdict
 

@@ -2,73 +2,54 @@
 ghost use Rattle.std.specs.Prelude.{◌≡◌, ◌≤◌, length};
 ghost use Rattle.access.specs.Contexts.{member};
 ghost use Rattle.verdicts.specs.Activities.{domain, apart as apart_in, Forbids};
-ghost use Rattle.moves.specs.Grants.{standing};
+ghost use Rattle.moves.specs.Regimes.{meaning_of, grants_of};
 ghost use Rattle.judge.specs.Judged.{Tells};
 ghost use Rattle.judge.specs.Crossings.{AcrossAt, AcrossFrom, AcrossAll};
 
 use crate::verdict::Verdict;
 use access::context_set::ContextSet;
 use access::policy::Policy;
-use moves::grant::Grant;
 use moves::movement::Move;
-use moves::step::{Step, show};
+use moves::regime::Regime;
+use moves::step::Step;
 
 /// Whether exactly one of two contexts is in a set.
 fn apart(set: ContextSet, s: u16, t: u16) -> bool
     ensures { result ≡ apart_in (member set) s t }
 {
-    if set.has(s) { !set.has(t) } else { set.has(t) }
+    set.has(s) != set.has(t)
 }
 
 /// The step by which `s` does something on `t`, if the two are apart and some legal run makes one.
-fn crossing_at<P: Policy>(
-    policy: &P,
-    grants: &[Option<Grant>; 32],
-    set: ContextSet,
-    s: u16,
-    t: u16,
-) -> Option<Step>
-    ensures { AcrossAt (P.Policy.meaning policy.now) (standing grants.now 0) (member set) s t result }
+fn crossing_at<P: Policy>(regime: &Regime<'_, P>, set: ContextSet, s: u16, t: u16) -> Option<Step>
+    ensures { AcrossAt (meaning_of P.Policy.meaning regime.now) (grants_of regime.now) (member set) s t result }
 {
     if apart(set, s, t) {
-        show(policy, grants, Move::Contact(s, t))
+        regime.show(Move::Contact(s, t))
     } else {
         None
     }
 }
 
 /// The first such step by which `s` does something.
-fn crossing_from<P: Policy>(
-    policy: &P,
-    grants: &[Option<Grant>; 32],
-    set: ContextSet,
-    s: u16,
-) -> Option<Step>
-    ensures { AcrossFrom (P.Policy.meaning policy.now) (standing grants.now 0) (member set) s (P.Policy.meaning policy.now).contexts result }
+fn crossing_from<P: Policy>(regime: &Regime<'_, P>, set: ContextSet, s: u16) -> Option<Step>
+    ensures { AcrossFrom (meaning_of P.Policy.meaning regime.now) (grants_of regime.now) (member set) s (meaning_of P.Policy.meaning regime.now).contexts result }
 {
-    let n = policy.contexts();
-    let mut t = 0;
-    while t < n {
-        t += 1;
-        match crossing_at(policy, grants, set, s, t) {
-            Some(step) => return Some(step),
-            None => {}
+    for t in 1..=regime.policy.contexts() {
+        if let Some(step) = crossing_at(regime, set, s, t) {
+            return Some(step);
         }
     }
     None
 }
 
 /// The first such step.
-fn crossing<P: Policy>(policy: &P, grants: &[Option<Grant>; 32], set: ContextSet) -> Option<Step>
-    ensures { AcrossAll (P.Policy.meaning policy.now) (standing grants.now 0) (member set) (P.Policy.meaning policy.now).contexts result }
+fn crossing<P: Policy>(regime: &Regime<'_, P>, set: ContextSet) -> Option<Step>
+    ensures { AcrossAll (meaning_of P.Policy.meaning regime.now) (grants_of regime.now) (member set) (meaning_of P.Policy.meaning regime.now).contexts result }
 {
-    let n = policy.contexts();
-    let mut s = 0;
-    while s < n {
-        s += 1;
-        match crossing_from(policy, grants, set, s) {
-            Some(step) => return Some(step),
-            None => {}
+    for s in 1..=regime.policy.contexts() {
+        if let Some(step) = crossing_from(regime, set, s) {
+            return Some(step);
         }
     }
     None
@@ -76,15 +57,14 @@ fn crossing<P: Policy>(policy: &P, grants: &[Option<Grant>; 32], set: ContextSet
 
 /// Judges a domain.
 pub(crate) fn by_contact<P: Policy>(
-    policy: &P,
-    grants: &[Option<Grant>; 32],
+    regime: &Regime<'_, P>,
     set: ContextSet,
     steps: &mut [Step],
 ) -> Verdict
-    requires { (P.Policy.meaning policy.now).contexts ≤ length steps.old }
-    ensures { Tells (P.Policy.meaning policy.now) (standing grants.now 0) (Forbids (P.Policy.meaning policy.now) (domain (member set))) steps.old steps.new result }
+    requires { (meaning_of P.Policy.meaning regime.now).contexts ≤ length steps.old }
+    ensures { Tells (meaning_of P.Policy.meaning regime.now) (grants_of regime.now) (Forbids (meaning_of P.Policy.meaning regime.now) (domain (member set))) steps.old steps.new result }
 {
-    match crossing(policy, grants, set) {
+    match crossing(regime, set) {
         Some(step) => {
             steps[0] = step;
             Verdict::Broken { steps: 1 }

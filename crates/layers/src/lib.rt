@@ -3,6 +3,8 @@
 #![tactic(auto)]
 
 pub mod labels;
+pub mod laws;
+pub mod layer;
 pub mod level;
 pub mod owner;
-pub mod rules;
+pub mod rule;

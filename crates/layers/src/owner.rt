@@ -2,63 +2,51 @@
 ghost use Rattle.std.specs.Prelude.{◌≡◌};
 ghost use Rattle.layers.specs.Labels.{label_of};
 ghost use Rattle.layers.specs.Layers.{owner_rule, with_owners};
-ghost use Rattle.layers.specs.Layered.{layer_sound, owner_less};
+ghost use Rattle.layers.specs.Layered.{owner_leaves_no_more};
 
 use crate::labels::Labels;
-use crate::rules::unless;
+use crate::layer::Layer;
+use crate::rule::{Rule, unless};
 use access::operation_set::OperationSet;
 use access::policy::Policy;
-use access::refusal::Refusal;
 
-/// A policy that permits what the one below permits, but the constrained operations only between contexts of one owner.
-#[derive(Drop)]
-pub struct OwnerLayer<P> {
-    below: P,
-    owners: Labels,
-    constrained: OperationSet,
+/// Leaves the constrained operations only between contexts of one owner.
+#[derive(Clone, Copy)]
+pub struct Owners {
+    pub owners: Labels,
+    pub constrained: OperationSet,
 }
 
-impl<P: Policy> OwnerLayer<P> {
-    pub fn new(below: P, owners: Labels, constrained: OperationSet) -> OwnerLayer<P>
-        ensures { (result.below ≡ below) × ((result.owners ≡ owners) × (result.constrained ≡ constrained)) }
-    {
-        OwnerLayer {
-            below,
-            owners,
-            constrained,
-        }
-    }
-}
+impl Rule for Owners {
+    ghost left = { λ r. owner_rule (label_of r.owners) r.constrained.bits };
 
-impl<P: Policy> Policy for OwnerLayer<P> {
-    ghost meaning = { λ l. with_owners (P.Policy.meaning l.below) (label_of l.owners) l.constrained.bits };
+    ghost no_more = { λ r. owner_leaves_no_more (label_of r.owners) r.constrained.bits };
 
-    ghost sound = { λ p.
-        let m = P.Policy.meaning p.below in
-        layer_sound (owner_rule (label_of p.owners) p.constrained.bits) m (owner_less (label_of p.owners) p.constrained.bits m.permitted) (P.Policy.sound p.below) };
-
-    fn contexts(&self) -> u16 {
-        self.below.contexts()
-    }
-
-    fn capacity(&self) -> u32 {
-        self.below.capacity()
-    }
-
-    fn written(&self, subject: u16, target: u16) -> OperationSet {
-        self.below.written(subject, target)
-    }
-
-    fn permitted(&self, subject: u16, target: u16) -> OperationSet {
-        let below = self.below.permitted(subject, target);
+    fn leave(&self, subject: u16, target: u16, set: OperationSet) -> OperationSet {
         unless(
             self.owners.of(subject) == self.owners.of(target),
             self.constrained,
-            below,
+            set,
         )
     }
+}
 
-    fn set(&mut self, subject: u16, target: u16, operations: OperationSet) -> Result<(), Refusal> {
-        self.below.set(subject, target, operations)
+/// A policy that permits what the one below permits, but the constrained operations only between contexts of one owner.
+pub type OwnerLayer<P> = Layer<P, Owners>;
+
+impl<P: Policy> Layer<P, Owners> {
+    pub fn new(below: P, owners: Labels, constrained: OperationSet) -> OwnerLayer<P>
+        ensures below { result.below ≡ below }
+        ensures owners { result.rule.owners ≡ owners }
+        ensures constrained { result.rule.constrained ≡ constrained }
+        ensures meaning { ⟦<OwnerLayer<P> as Policy>⟧.meaning result ≡ with_owners (P.meaning below) (label_of owners) constrained.bits }
+    {
+        Layer::over(
+            below,
+            Owners {
+                owners,
+                constrained,
+            },
+        )
     }
 }

@@ -1,6 +1,7 @@
 -- The standing grants, entry by entry.
-use Rattle.std.proofs.Common.{◌≡◌, ℕ, zero, suc, ◌+◌, ◌<◌, true, false, T, List, [], ◌∷◌, length, get_or, drop, Some, None, Option, sym, refl, ap, ◌∙◌, subst, inl, inr, ⊎_elim, arith, drop-cons}
-use lib.Bits.{bit_and, bit_or}
+use Rattle.std.proofs.Common.{◌≡◌, ℕ, zero, suc, ◌+◌, ◌<◌, true, false, T, List, [], ◌∷◌, length, get_or, ◌++◌, Some, None, Option, sym, refl, ap, ◌∙◌, subst, inl, inr, ⊎_elim, arith}
+use lib.Bits.{bit_and, bit_or, or_zero_r}
+use Rattle.std.specs.Option.{unwrap_or}
 use Rattle.std.proofs.lemmas.Bool.{cases_lt}
 use Rattle.access.specs.Operations.{has}
 use Rattle.access.specs.Policy.{Meaning, Allows}
@@ -10,21 +11,14 @@ use Rattle.verdicts.specs.Possible.{grant_set, granted, possible}
 use Rattle.verdicts.specs.Verdicts.{Given, Origin}
 use Rattle.verdicts.proofs.Reduction.{or_has, and_has, has_both, granting, grant_set_at, grant_set_parts}
 use Rattle.moves.specs.declared.grant.Grant.{Grant}
-use Rattle.moves.specs.Grants.{meant, standing, given_by, doing, NoneGives, LowestGiver}
+use Rattle.moves.specs.Grants.{meant, standing, given_by, doing, NoneGives, LowestGiver, Giver}
 
-granted_more : (o : Option Grant) (os : List (Option Grant)) (k s t : ℕ) → granted (standing (o ∷ os) k) s t ≡ bit_or (given_by o s t) (granted (standing os (suc k)) s t)
-granted_more None os k s t = refl
-granted_more (Some g) os k s t = refl
-
--- what was collected and what is left give together what they gave one entry before
-pub granted_next : (os : List (Option Grant)) (i s t a : ℕ) (d : Option Grant) → i < length os
-    → bit_or (bit_or a (given_by (get_or os i d) s t)) (granted (standing (drop (i + 1) os) (i + 1)) s t) ≡ bit_or a (granted (standing (drop i os) i) s t)
-granted_next os i s t a d h =
-    let e : i + 1 ≡ suc i = omega arith in
-    or_assoc a (given_by (get_or os i d) s t) (granted (standing (drop (i + 1) os) (i + 1)) s t)
-    ∙ ap (bit_or a)
-    (ap (λ n. bit_or (given_by (get_or os i d) s t) (granted (standing (drop n os) n) s t)) e
-    ∙ sym (ap (λ xs. granted (standing xs i) s t) (drop-cons os i d h) ∙ granted_more (get_or os i d) (drop (suc i) os) i s t))
+-- an entry more gives what it gives beside the others
+pub granted_push : (os : List (Option Grant)) (o : Option Grant) (k s t : ℕ) → granted (standing (os ++ (o ∷ [])) k) s t ≡ bit_or (granted (standing os k) s t) (given_by o s t)
+granted_push [] None k s t = refl
+granted_push [] (Some g) k s t = or_zero_r (grant_set (meant g) s t)
+granted_push (None ∷ os) o k s t = granted_push os o (suc k) s t
+granted_push (Some g ∷ os) o k s t = ap (bit_or (grant_set (meant g) s t)) (granted_push os o (suc k) s t) ∙ sym (or_assoc (grant_set (meant g) s t) (granted (standing os (suc k)) s t) (given_by o s t))
 
 -- entry i is the grant under number i + 1
 entry_stands : (os : List (Option Grant)) (k i : ℕ) (g : Grant) → get_or os i None ≡ Some g → Standing (suc (k + i)) (meant g) (standing os k)
@@ -77,9 +71,9 @@ module _ (os : List (Option Grant)) (s t o : ℕ) where
       (r.place, omega (arith, r.number), r.below, subst (λ e. T (has (given_by e s t) o)) (sym r.entry) (subst (λ m. T (has (grant_set m s t) o)) (sym r.meaning) h))
 
   -- the first entry that gives is the lowest giver, and where no entry gives there is none
-  pub first_giver : (i : ℕ) → true ≡ has (given_by (get_or os i None) s t) o → ((k : ℕ) → k < i → has (given_by (get_or os k None) s t) o ≡ false) → LowestGiver (standing os 0) s t o (i + 1)
+  pub first_giver : (i : ℕ) → has (given_by (get_or os i None) s t) o ≡ true → ((k : ℕ) → k < i → has (given_by (get_or os k None) s t) o ≡ false) → LowestGiver (standing os 0) s t o (i + 1)
   first_giver i h none = (
-    entry_gives i (subst T h tt),
+    entry_gives i (subst T (sym h) tt),
     λ j w. let r = giver_entry j w in ⊎_elim (λ l. absurd (subst T (none r.0 l) r.3)) (λ g. omega (arith, r.1)) (cases_lt r.0 i),
   )
 
@@ -98,14 +92,16 @@ module _ (m : Meaning) (gs : Grants) (s t o : ℕ) where
     not_allowed : Allows m (doing s t o) → ⊥
     not_allowed a = subst T (sym not_own) (has_both (m.written s t) (m.permitted s t) o a.is_written a.is_permitted)
 
-    pub from_grant : (k : ℕ) → LowestGiver gs s t o k → Origin m gs (doing s t o) k
-    from_grant k l = inr (not_allowed, l.0, l.1)
-
     -- what is possible and not the policy's own is granted
-    pub some_gives : T (has (possible m gs s t) o) → NoneGives gs s t o → ⊥
+    some_gives : T (has (possible m gs s t) o) → NoneGives gs s t o → ⊥
     some_gives h n =
         let c = and_has (m.permitted s t) (bit_or (m.written s t) (granted gs s t)) o h in
         ⊎_elim
         (λ w. not_allowed (record { is_written = w; is_permitted = c.0 }))
         (λ g. let r = granting gs s t o g in n r.number (record { over = r.over; gives = r.gives }))
         (or_has (m.written s t) (granted gs s t) o c.1)
+
+    -- so it comes from the lowest grant that gives it
+    pub from_giver : T (has (possible m gs s t) o) → (giver : Option ℕ) (k : ℕ) → k ≡ unwrap_or giver 0 → Giver gs s t o giver → Origin m gs (doing s t o) k
+    from_giver h None k e n = absurd (some_gives h n)
+    from_giver h (Some j) k e l = subst (Origin m gs (doing s t o)) (sym e) (inr (not_allowed, l.0, l.1))

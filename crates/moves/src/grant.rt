@@ -8,7 +8,7 @@ use access::context_set::ContextSet;
 use access::operation::Operation;
 use access::operation_set::OperationSet;
 
-#[derive(Clone, Copy)]
+#[derive(Clone, Copy, Debug, PartialEq, Eq)]
 pub struct Grant {
     pub subjects: ContextSet,
     pub targets: ContextSet,
@@ -20,14 +20,8 @@ fn gives(entry: &Option<Grant>, s: u16, t: u16) -> OperationSet
     ensures { result.bits ≡ given_by entry.now s t }
 {
     match entry {
-        None => OperationSet::none(),
-        Some(grant) => {
-            if grant.subjects.has(s) && grant.targets.has(t) {
-                grant.operations
-            } else {
-                OperationSet::none()
-            }
-        }
+        Some(grant) if grant.subjects.has(s) && grant.targets.has(t) => grant.operations,
+        _ => OperationSet::none(),
     }
 }
 
@@ -35,11 +29,10 @@ fn gives(entry: &Option<Grant>, s: u16, t: u16) -> OperationSet
 pub fn granted_on(grants: &[Option<Grant>; 32], s: u16, t: u16) -> OperationSet
     ensures { result.bits ≡ granted (standing grants.now 0) s t }
 {
-    let mut all = OperationSet::none();
-    for i in 0..32 {
-        all = all.or(gives(&grants[i], s, t));
-    }
-    all
+    grants.iter().fold(
+        OperationSet::none(),
+        |all, entry| all.or(gives(entry, s, t)),
+    )
 }
 
 /// The lowest number whose grant gives an operation on a pair.
@@ -51,10 +44,8 @@ pub fn lowest_giver(
 ) -> Option<u8>
     ensures { Giver (standing grants.now 0) s t (number_of operation) result }
 {
-    for i in 0..32 {
-        if gives(&grants[i], s, t).has(operation) {
-            return Some(i as u8 + 1);
-        }
-    }
-    None
+    let place = grants
+        .iter()
+        .position(|entry| gives(entry, s, t).has(operation))?;
+    Some(place as u8 + 1)
 }

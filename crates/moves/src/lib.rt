@@ -5,4 +5,5 @@
 pub mod grant;
 pub mod movement;
 pub mod possible;
+pub mod regime;
 pub mod step;

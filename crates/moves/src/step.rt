@@ -3,83 +3,67 @@ ghost use Rattle.std.specs.Prelude.{T};
 ghost use Rattle.access.specs.Operations.{number_of, has};
 ghost use Rattle.verdicts.specs.Possible.{possible as possible_on};
 ghost use Rattle.verdicts.specs.Verdicts.{Origin};
-ghost use Rattle.moves.specs.Grants.{standing, doing};
+ghost use Rattle.moves.specs.Grants.{doing};
+ghost use Rattle.moves.specs.Regimes.{meaning_of, grants_of};
 ghost use Rattle.moves.specs.Moved.{moved, ShownAs, LowestOf};
 
-use crate::grant::{Grant, lowest_giver};
+use crate::grant::lowest_giver;
 use crate::movement::Move;
-use crate::possible::possible;
+use crate::regime::Regime;
 use access::operation::Operation;
 use access::operation_set::OperationSet;
 use access::policy::Policy;
 
 /// One step of a shown activity: an interaction, and its origin: 0 where the policy allows it, else the lowest grant that
 /// gives it.
-#[derive(Clone, Copy)]
+#[derive(Clone, Copy, Debug, PartialEq, Eq)]
 pub struct Step {
     pub subject: u16,
     pub target: u16,
     pub operation: Operation,
+    // reports tell an origin as a number, 0 for the policy itself
     pub origin: u8,
 }
 
-/// Where a possible interaction comes from.
-fn origin<P: Policy>(
-    policy: &P,
-    grants: &[Option<Grant>; 32],
-    s: u16,
-    t: u16,
-    operation: Operation,
-) -> u8
-    requires { T (has (possible_on (P.Policy.meaning policy.now) (standing grants.now 0) s t) (number_of operation)) }
-    ensures { Origin (P.Policy.meaning policy.now) (standing grants.now 0) (doing s t (number_of operation)) result }
-{
-    if policy
-        .written(s, t)
-        .and(policy.permitted(s, t))
-        .has(operation)
+impl<P: Policy> Regime<'_, P> {
+    /// Where a possible interaction comes from.
+    fn origin(&self, s: u16, t: u16, operation: Operation) -> u8
+        requires { T (has (possible_on (meaning_of P.Policy.meaning self.now) (grants_of self.now) s t) (number_of operation)) }
+        ensures { Origin (meaning_of P.Policy.meaning self.now) (grants_of self.now) (doing s t (number_of operation)) result }
     {
-        return 0;
+        let own = self.policy.written(s, t).and(self.policy.permitted(s, t));
+        if own.has(operation) {
+            return 0;
+        }
+        lowest_giver(self.grants, s, t, operation).unwrap_or(0)
     }
-    match lowest_giver(grants, s, t, operation) {
-        Some(number) => number,
-        None => 0,
-    }
-}
 
-/// The step of the lowest operation of a set that is possible on a pair.
-fn lowest<P: Policy>(
-    policy: &P,
-    grants: &[Option<Grant>; 32],
-    s: u16,
-    t: u16,
-    among: OperationSet,
-) -> Option<Step>
-    ensures { LowestOf (P.Policy.meaning policy.now) (standing grants.now 0) s t among.bits result }
-{
-    match among.and(possible(policy, grants, s, t)).lowest() {
-        Some(operation) => Some(Step {
+    /// The step of the lowest operation of a set that is possible on a pair.
+    fn lowest(&self, s: u16, t: u16, among: OperationSet) -> Option<Step>
+        ensures { LowestOf (meaning_of P.Policy.meaning self.now) (grants_of self.now) s t among.bits result }
+    {
+        let operation = among.and(self.possible(s, t)).lowest()?;
+        Some(Step {
             subject: s,
             target: t,
             operation,
-            origin: origin(policy, grants, s, t, operation),
-        }),
-        None => None,
+            origin: self.origin(s, t, operation),
+        })
     }
-}
 
-/// The step that shows a move, if some legal run makes it: by the giver's lowest operation, or by the taker's where the
-/// giver has none.
-pub fn show<P: Policy>(policy: &P, grants: &[Option<Grant>; 32], chosen: Move) -> Option<Step>
-    ensures { ShownAs (P.Policy.meaning policy.now) (standing grants.now 0) (moved chosen) result }
-{
-    match chosen {
-        Move::Transition(c, d) => lowest(policy, grants, c, d, OperationSet::transition()),
-        Move::Transfer(g, k) => {
-            let given = lowest(policy, grants, g, k, OperationSet::write_like());
-            let taken = lowest(policy, grants, k, g, OperationSet::read_like());
-            given.or(taken)
+    /// The step that shows a move, if some legal run makes it: by the giver's lowest operation, or by the taker's where the
+    /// giver has none.
+    pub fn show(&self, chosen: Move) -> Option<Step>
+        ensures { ShownAs (meaning_of P.Policy.meaning self.now) (grants_of self.now) (moved chosen) result }
+    {
+        match chosen {
+            Move::Transition(c, d) => self.lowest(c, d, OperationSet::transition()),
+            Move::Transfer(g, k) => {
+                let given = self.lowest(g, k, OperationSet::write_like());
+                let taken = self.lowest(k, g, OperationSet::read_like());
+                given.or(taken)
+            }
+            Move::Contact(s, t) => self.lowest(s, t, OperationSet::all()),
         }
-        Move::Contact(s, t) => lowest(policy, grants, s, t, OperationSet::all()),
     }
 }

@@ -2,7 +2,7 @@
 use access::context_set::ContextSet;
 
 /// What a property forbids, of which activities.
-#[derive(Clone, Copy)]
+#[derive(Clone, Copy, Debug, PartialEq, Eq)]
 pub enum Template {
     Integrity,
     Confidentiality,

@@ -45,7 +45,7 @@ mod tests {
     fn is_step(step: Step, subject: u16, operation: Operation, target: u16, origin: u8) -> bool {
         step.subject == subject
             && step.target == target
-            && step.operation.number() == operation.number()
+            && step.operation == operation
             && step.origin == origin
     }
 

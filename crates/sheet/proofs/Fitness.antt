@@ -3,8 +3,8 @@ use Rattle.std.proofs.Common.{◌≡◌, ℕ, Bool, true, false, cond, not, ◌|
 use Rattle.access.specs.Refusals.{first_of, when_accepted}
 use Rattle.access.specs.declared.refusal.Refusal.{Refusal}
 use Rattle.access.specs.declared.refusal.Refusal.TheVariants.{NumberOutside, StandsAlready, UnfitSet, SharedContext}
-use Rattle.access.specs.Contexts.{meet}
-use Rattle.entries.specs.Entries.{Entries, in_range, put}
+use Rattle.access.specs.Contexts.{inside, meet}
+use Rattle.entries.specs.Entries.{Entries, put}
 use Rattle.properties.specs.declared.property.Property.{Property}
 use Rattle.sheet.specs.Book.{Opened, Book, unfit, unfit_second, refusal, accepted, fed, fed_all, put_back}
 use Rattle.sheet.specs.Judging.{fits, Fit}
@@ -14,7 +14,7 @@ use Rattle.sheet.specs.declared.request.Request.TheVariants.{Set, EnterGrant, St
 
 -- a property that is entered is fit
 entered_fit : (b : Book) (k : ℕ) (p : Property) → refusal b (EnterProperty k p) ≡ None → fits b.policy.contexts (Some p) ≡ true
-entered_fit b k p e = go (in_range 64 k) (is_some (b.properties k)) (unfit b.policy.contexts p.first || unfit_second b.policy.contexts p.template p.second) (meet p.first p.second) e
+entered_fit b k p e = go (inside 64 k) (is_some (b.properties k)) (unfit b.policy.contexts p.first || unfit_second b.policy.contexts p.template p.second) (meet p.first p.second) e
   where
     go : (r s u m : Bool) → first_of ((not r, NumberOutside) ∷ (s, StandsAlready) ∷ (u, UnfitSet) ∷ (m, SharedContext) ∷ []) ≡ None → not u ≡ true
     go true false false m e = refl

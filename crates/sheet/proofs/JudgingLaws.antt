@@ -1,11 +1,12 @@
 -- From a judging of what a sheet holds to one of the book that stands on it.
-use Rattle.std.proofs.Common.{◌≡◌, ℕ, ◌-◌, Bool, true, false, cond, not, ◌||◌, List, [], ◌∷◌, length, get_or, Some, None, Ok, Err, Option, Result, sym, refl, ap, ◌∙◌, subst, ⊎_elim, arith}
+use Rattle.std.proofs.Common.{◌≡◌, ℕ, Bool, true, false, cond, not, ◌||◌, List, [], ◌∷◌, length, Some, None, Ok, Err, Option, Result, sym, refl, ap, ◌∙◌, subst, ⊎_elim, arith}
 use Rattle.std.proofs.lemmas.Bool.{cases_Bool}
 use Rattle.std.proofs.lemmas.Bool.Decides.{nat_tests}
 use Rattle.access.proofs.Tests.{differ}
 use Rattle.access.specs.declared.context_set.ContextSet.{ContextSet}
-use Rattle.access.specs.Contexts.{member, has_above, empty}
+use Rattle.access.specs.Contexts.{inside, member, has_above, empty}
 use Rattle.access.proofs.ContextLaws.{none_above}
+use Rattle.std.specs.Option.{ok_or}
 use Rattle.access.specs.Policy.{Meaning}
 use Rattle.access.specs.Refusals.{refusal_number, first_of}
 use Rattle.access.specs.declared.refusal.Refusal.{Refusal}
@@ -21,8 +22,9 @@ use Rattle.properties.specs.declared.property.Template.{Template}
 use Rattle.properties.specs.declared.property.Template.TheVariants.{Integrity, Confidentiality, Domain, Consistency}
 use Rattle.judge.specs.Judged.{forbidding, property_of, Answered}
 use Rattle.judge.specs.declared.verdict.Verdict.{Verdict}
-use Rattle.entries.specs.Entries.{in_range, in_order}
+use Rattle.entries.specs.Entries.{in_order}
 use Rattle.entries.specs.Held.{held}
+use Rattle.entries.specs.Standing.{entry_at}
 use Rattle.sheet.specs.Book.{Book, unfit, unfit_second}
 use Rattle.sheet.specs.Stands.{shown, Stands}
 use Rattle.sheet.specs.Judging.{fits, short, judging_refusal, standing_grants, VerdictOn, Judges}
@@ -80,14 +82,15 @@ of_contexts n p e = let f = both_false (unfit n p.first) (unfit_second n p.templ
     go Domain a b f g = tt
     go Consistency a b f g = (fit_set a f, fit_set b g)
 
--- an entry stands under a number in range alone
-ranged_entry : {E : Type 0} (r : Bool) (o : Option E) (e : E) → cond r o None ≡ Some e → r ≡ true
-ranged_entry true o e is = refl
-ranged_entry false o e is = let z : ◌≡◌ {A = ℕ} 0 1 = cc in absurd (omega arith)
+-- a number has an entry where it is in range and one stands
+entry_parts : {E : Type 0} (r : Bool) (o : Option E) (e : E) → Ok e ≡ cond r (ok_or o why.StandsNot) (Err why.NumberOutside) → (r ≡ true) × (o ≡ Some e)
+entry_parts true (Some x) e is = (refl, cc)
+entry_parts true None e is = absurd (grind arith)
+entry_parts false o e is = absurd (grind arith)
 
 module _ (k : ℕ) (ts : List ℕ) (ps ps' : List Place) (ss ss' : List Step) where
   -- in a book that has property k standing
-  judges : (b : Book) (p : Property) → in_range 64 k ≡ true → b.properties k ≡ Some p → (r : Result Verdict Refusal)
+  judges : (b : Book) (p : Property) → inside 64 k ≡ true → b.properties k ≡ Some p → (r : Result Verdict Refusal)
       → Answered b.policy (standing_grants b) (property_of p) ts ps ps' ss ss' r → Judges b k ts ps ps' ss ss' r
   judges b p ranged stands r a = go r a
     where
@@ -103,12 +106,12 @@ module _ (k : ℕ) (ts : List ℕ) (ps ps' : List Place) (ss ss' : List Step) wh
       go (Err w) (is, lacks, places, steps) = (by_memory true (scarce b.policy.contexts ts ps ss lacks) ∙ ap Some (sym (is_12 w is)), places, steps)
 
   -- on a sheet that holds property k
-  pub judges_on : {P : Type 0} (meaning : P → Meaning) (sheet : Sheet P) (p : Property) (gs : List (Option Grant)) → gs ≡ in_order (held sheet.grants) 0 32 → held sheet.properties k ≡ Some p
+  pub judges_on : {P : Type 0} (meaning : P → Meaning) (sheet : Sheet P) (p : Property) (gs : List (Option Grant)) → gs ≡ in_order (held sheet.grants) 0 32 → Ok p ≡ entry_at 64 (held sheet.properties) k
       → (r : Result Verdict Refusal) → Answered (meaning sheet.policy) (standing gs 0) (property_of p) ts ps ps' ss ss' r
       → (b : Book) → Stands meaning b sheet → Judges b k ts ps ps' ss ss' r
   judges_on meaning sheet p gs is stands r a b st =
       let m : Meaning = meaning sheet.policy in
-      let ranged : in_range 64 k ≡ true = ranged_entry (in_range 64 k) (get_or sheet.properties.entries (k - 1) None) p stands in
+      let parts = entry_parts (inside 64 k) (held sheet.properties k) p stands in
       subst (λ (x : Book). Judges x k ts ps ps' ss ss' r) (sym st.shows)
-      (judges (shown meaning sheet) p ranged stands r
+      (judges (shown meaning sheet) p parts.0 parts.1 r
       (subst (λ (l : List (Option Grant)). Answered m (standing l 0) (property_of p) ts ps ps' ss ss' r) is a))

@@ -1,5 +1,5 @@
 -- The notes as a list, the latest first.
-use Rattle.std.proofs.Common.{◌≡◌, ℕ, zero, suc, ◌+◌, ◌-◌, ◌<◌, ◌≤◌, List, [], ◌∷◌, length, get_or, set, refl, ap, ◌∙◌, ap₂, add-one, arith, get_or-set_other, get_or-set_same}
+use Rattle.std.proofs.Common.{◌≡◌, ℕ, zero, suc, ◌+◌, ◌<◌, ◌≤◌, List, [], ◌∷◌, length, get_or, set, sym, refl, ap, ◌∙◌, ap₂, add-one, arith, get_or-set_other, get_or-set_same}
 use Rattle.sheet.specs.Noted.{no_note, latest}
 use Rattle.sheet.specs.declared.note.Note.{Note}
 
@@ -13,6 +13,10 @@ pub latest_length : (list : List Note) (k : ℕ) → length (latest list k) ≡ 
 unfolding latest
 latest_length list zero = refl
 latest_length list (suc k) = ap suc (latest_length list k)
+
+-- so their count tells how many a list of them has
+pub count_is : (list : List Note) (k : ℕ) (xs : List Note) → latest list k ≡ xs → length xs ≡ k
+count_is list k xs e = sym (ap length e) ∙ latest_length list k
 
 -- a note replaced behind the first k changes none of them
 below : (list : List Note) (j : ℕ) (x : Note) (k : ℕ) → k ≤ j → latest (set list j x) k ≡ latest list k
@@ -28,7 +32,6 @@ latest_more list k x h =
     ∙ ap₂ (λ a b. a ∷ b) (get_or-set_same list k x no_note h) (below list k x k (omega arith))
 
 -- the first is the last that came
-pub latest_less : (list : List Note) (k : ℕ) → 0 < k → latest list k ≡ get_or list (k - 1) no_note ∷ latest list (k - 1)
+pub latest_less : (list : List Note) (k j : ℕ) → suc j ≡ k → latest list k ≡ get_or list j no_note ∷ latest list j
 unfolding latest
-latest_less list zero h = absurd (omega arith)
-latest_less list (suc k) h = let e : suc k - 1 ≡ k = omega arith in rw e refl
+latest_less list k j e = sym (ap (latest list) e)

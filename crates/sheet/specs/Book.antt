@@ -1,13 +1,14 @@
 -- The book: what stands on a sheet, told from the calls alone.
 use Rattle.std.specs.Prelude.{ℕ, ◌+◌, min, Bool, false, not, ◌||◌, List, [], ◌∷◌, is_some, Some, None, Option, ◌==◌, nat_le}
 use Rattle.access.specs.Operations.{unknown}
-use Rattle.access.specs.Contexts.{both_inside, has_above, empty, meet}
+use Rattle.access.specs.Contexts.{inside, both_inside, has_above, empty, meet}
 use Rattle.access.specs.Policy.{Matrix, Meaning, with_written}
 use Rattle.access.specs.Refusals.{first_of, when_accepted}
 use Rattle.access.specs.Setting.{no_room, with_set}
 use Rattle.access.specs.declared.refusal.Refusal.{Refusal}
-use Rattle.access.specs.declared.refusal.Refusal.TheVariants.{NumberOutside, StandsAlready, StandsNot, ContextOutside, UnfitOperations, UnfitSet, SharedContext, OpenAlready, NoneOpen, NotesFull, PolicyFull}
-use Rattle.entries.specs.Entries.{Entries, in_range, put}
+use Rattle.access.specs.declared.refusal.Refusal.TheVariants.{NumberOutside, StandsAlready, ContextOutside, UnfitOperations, UnfitSet, SharedContext, OpenAlready, NoneOpen, NotesFull, PolicyFull}
+use Rattle.entries.specs.Entries.{Entries, put}
+use Rattle.entries.specs.Standing.{striking_refusal}
 use Rattle.access.specs.declared.context_set.ContextSet.{ContextSet}
 use Rattle.moves.specs.declared.grant.Grant.{Grant}
 use Rattle.properties.specs.declared.property.Property.{Property}
@@ -60,20 +61,20 @@ refusal b (Set s t ops) =
     ∷ [])
 refusal b (EnterGrant k g) =
     first_of (
-    (not (in_range 32 k), NumberOutside)
+    (not (inside 32 k), NumberOutside)
     ∷ (is_some (b.grants k), StandsAlready)
     ∷ (unknown g.operations.bits || (g.operations.bits == 0), UnfitOperations)
     ∷ (unfit b.policy.contexts g.subjects || unfit b.policy.contexts g.targets, UnfitSet)
     ∷ [])
-refusal b (StrikeGrant k) = first_of ((not (in_range 32 k), NumberOutside) ∷ (not (is_some (b.grants k)), StandsNot) ∷ [])
+refusal b (StrikeGrant k) = striking_refusal 32 b.grants k
 refusal b (EnterProperty k p) =
     first_of (
-    (not (in_range 64 k), NumberOutside)
+    (not (inside 64 k), NumberOutside)
     ∷ (is_some (b.properties k), StandsAlready)
     ∷ (unfit b.policy.contexts p.first || unfit_second b.policy.contexts p.template p.second, UnfitSet)
     ∷ (meet p.first p.second, SharedContext)
     ∷ [])
-refusal b (StrikeProperty k) = first_of ((not (in_range 64 k), NumberOutside) ∷ (not (is_some (b.properties k)), StandsNot) ∷ [])
+refusal b (StrikeProperty k) = striking_refusal 64 b.properties k
 refusal b Open = first_of ((is_some b.change, OpenAlready) ∷ [])
 refusal b Adopt = first_of ((not (is_some b.change), NoneOpen) ∷ [])
 refusal b Withdraw = first_of ((not (is_some b.change), NoneOpen) ∷ [])

@@ -1,5 +1,6 @@
 -- What judging a property that stands on a sheet answers.
 use Rattle.std.specs.Prelude.{◌≡◌, ℕ, ◌*◌, Bool, true, not, ◌||◌, ◌↔◌, List, [], ◌∷◌, length, is_some, Some, None, Ok, Err, Option, Result, nat_lt}
+use Rattle.access.specs.Contexts.{inside}
 use Rattle.access.specs.Refusals.{first_of}
 use Rattle.access.specs.declared.refusal.Refusal.{Refusal}
 use Rattle.access.specs.declared.refusal.Refusal.TheVariants.{NumberOutside, StandsNot, ShortMemory}
@@ -12,7 +13,7 @@ use Rattle.properties.specs.declared.property.Property.{Property}
 use Rattle.judge.specs.Judged.{property_of, Judged}
 use Rattle.judge.specs.declared.verdict.Verdict.{Verdict}
 use Rattle.judge.specs.declared.verdict.Verdict.TheVariants.{Guaranteed}
-use Rattle.entries.specs.Entries.{in_range, in_order}
+use Rattle.entries.specs.Entries.{in_order}
 use Rattle.sheet.specs.Book.{Book, unfit, unfit_second}
 
 -- nothing, or a property whose sets are fit
@@ -32,7 +33,7 @@ short n ticks places steps = nat_lt ticks (2 * n) || nat_lt places (2 * n) || na
 abbrev pub judging_refusal : Book → ℕ → ℕ → ℕ → ℕ → Option Refusal
 judging_refusal b k ticks places steps =
     first_of (
-    (not (in_range 64 k), NumberOutside)
+    (not (inside 64 k), NumberOutside)
     ∷ (not (is_some (b.properties k)), StandsNot)
     ∷ (short b.policy.contexts ticks places steps, ShortMemory)
     ∷ [])
@@ -52,8 +53,3 @@ VerdictOn b p ss ss' v =
 abbrev pub Judges : Book → ℕ → List ℕ → List Place → List Place → List Step → List Step → Result Verdict Refusal → Type 0
 Judges b k ts ps ps' ss ss' (Ok v) = (judging_refusal b k (length ts) (length ps) (length ss) ≡ None) × ((p : Property) → b.properties k ≡ Some p → fits b.policy.contexts (Some p) ≡ true → VerdictOn b p ss ss' v)
 Judges b k ts ps ps' ss ss' (Err why) = (judging_refusal b k (length ts) (length ps) (length ss) ≡ Some why) × (ps' ≡ ps) × (ss' ≡ ss)
-
--- the property that is to be judged, or why there is none
-abbrev pub ToJudge : Book → ℕ → Result Property Refusal → Type 0
-ToJudge b k (Ok p) = b.properties k ≡ Some p
-ToJudge b k (Err why) = (ticks places steps : ℕ) → judging_refusal b k ticks places steps ≡ Some why

@@ -1,7 +1,6 @@
 -- The notes of an open change, the latest first.
 use Rattle.std.specs.Prelude.{◌≡◌, ℕ, zero, suc, List, [], ◌∷◌, Some, None, Option, slice_index_or}
 use Rattle.sheet.specs.declared.note.Note.{Note}
-use Rattle.sheet.specs.declared.notes.Notes.{Notes}
 
 -- what a place without a note reads as
 abbrev pub no_note : Note
@@ -11,10 +10,6 @@ no_note = record { subject = 0; target = 0; before = record { bits = 0 } }
 unfoldable pub latest : List Note → ℕ → List Note
 latest list zero = []
 latest list (suc k) = slice_index_or list k no_note ∷ latest list k
-
--- the notes that stand
-abbrev pub noted : Notes → List Note
-noted notes = latest notes.list notes.count
 
 -- the first of a list was taken off it, if there was one
 abbrev pub Took : List Note → Option Note → List Note → Type 0

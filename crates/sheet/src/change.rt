@@ -2,6 +2,7 @@
 ghost use Rattle.sheet.specs.Stands.{Serves, handed, spent};
 ghost use Rattle.sheet.specs.declared.request.Request.TheVariants.{Open, Adopt};
 
+use crate::notes::Notes;
 use crate::sheet::Sheet;
 use access::policy::Policy;
 use access::refusal::Refusal;
@@ -22,11 +23,10 @@ impl<P: Policy> Sheet<P> {
     pub fn open(&mut self) -> Result<Change, Refusal>
         ensures { Serves P.Policy.meaning handed Open self.old result self.new }
     {
-        if self.changing {
+        if self.change.is_some() {
             return Err(Refusal::OpenAlready);
         }
-        self.changing = true;
-        self.notes.clear();
+        self.change = Some(Notes::none());
         Ok(Change { opened: () })
     }
 
@@ -34,14 +34,13 @@ impl<P: Policy> Sheet<P> {
     pub fn adopt(&mut self, change: Change) -> Result<(), Undecided>
         ensures { Serves P.Policy.meaning (spent change) Adopt self.old result self.new }
     {
-        if !self.changing {
+        if self.change.take().is_none() {
             return Err(Undecided {
                 why: Refusal::NoneOpen,
                 change,
             });
         }
         let Change { opened: () } = change;
-        self.changing = false;
         Ok(())
     }
 }

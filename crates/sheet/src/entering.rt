@@ -5,7 +5,6 @@ ghost use Rattle.sheet.specs.Book.{refusal, unfit, unfit_second};
 ghost use Rattle.sheet.specs.Stands.{Serves, shown};
 ghost use Rattle.sheet.specs.declared.request.Request.TheVariants.{EnterGrant, StrikeGrant, EnterProperty, StrikeProperty};
 
-use crate::numbers::is_within;
 use crate::sheet::Sheet;
 use access::context_set::ContextSet;
 use access::policy::Policy;
@@ -25,101 +24,69 @@ fn is_unfit_second(contexts: u16, template: Template, set: ContextSet) -> bool
     ensures { result ≡ unfit_second contexts template set }
 {
     match template {
-        Template::Integrity => is_unfit(contexts, set),
-        Template::Confidentiality => is_unfit(contexts, set),
         Template::Domain => !set.is_empty(),
-        Template::Consistency => is_unfit(contexts, set),
+        Template::Integrity | Template::Confidentiality | Template::Consistency => is_unfit(
+            contexts, set,
+        ),
     }
 }
 
 impl<P: Policy> Sheet<P> {
-    /// Why a grant cannot be entered.
-    fn grant_refusal(&self, number: u16, grant: Grant) -> Option<Refusal>
-        ensures { result ≡ refusal (shown P.Policy.meaning self.now) (EnterGrant number grant) }
+    /// Whether a grant can be entered.
+    fn check_grant(&self, number: u16, grant: Grant) -> Result<(), Refusal>
+        ensures { result ≡ answer (refusal (shown P.Policy.meaning self.now) (EnterGrant number grant)) }
     {
-        if !is_within(32, number) {
-            return Some(Refusal::NumberOutside);
-        }
-        if self.grants.stands(number) {
-            return Some(Refusal::StandsAlready);
-        }
+        self.grants.vacant(number)?;
         if grant.operations.has_unknown() || grant.operations.is_empty() {
-            return Some(Refusal::UnfitOperations);
+            return Err(Refusal::UnfitOperations);
         }
         let n = self.policy.contexts();
         if is_unfit(n, grant.subjects) || is_unfit(n, grant.targets) {
-            return Some(Refusal::UnfitSet);
+            return Err(Refusal::UnfitSet);
         }
-        None
+        Ok(())
     }
 
     pub fn enter_grant(&mut self, number: u16, grant: Grant) -> Result<(), Refusal>
         ensures { Serves P.Policy.meaning answer (EnterGrant number grant) self.old result self.new }
     {
-        match self.grant_refusal(number, grant) {
-            Some(why) => Err(why),
-            None => {
-                self.grants.put(number, Some(grant));
-                Ok(())
-            }
-        }
+        self.check_grant(number, grant)?;
+        self.grants.put(number, Some(grant));
+        Ok(())
     }
 
     pub fn strike_grant(&mut self, number: u16) -> Result<(), Refusal>
         ensures { Serves P.Policy.meaning answer (StrikeGrant number) self.old result self.new }
     {
-        if !is_within(32, number) {
-            return Err(Refusal::NumberOutside);
-        }
-        if !self.grants.stands(number) {
-            return Err(Refusal::StandsNot);
-        }
-        self.grants.put(number, None);
-        Ok(())
+        self.grants.strike(number)
     }
 
-    /// Why a property cannot be entered.
-    fn property_refusal(&self, number: u16, property: Property) -> Option<Refusal>
-        ensures { result ≡ refusal (shown P.Policy.meaning self.now) (EnterProperty number property) }
+    /// Whether a property can be entered.
+    fn check_property(&self, number: u16, property: Property) -> Result<(), Refusal>
+        ensures { result ≡ answer (refusal (shown P.Policy.meaning self.now) (EnterProperty number property)) }
     {
-        if !is_within(64, number) {
-            return Some(Refusal::NumberOutside);
-        }
-        if self.properties.stands(number) {
-            return Some(Refusal::StandsAlready);
-        }
+        self.properties.vacant(number)?;
         let n = self.policy.contexts();
         if is_unfit(n, property.first) || is_unfit_second(n, property.template, property.second) {
-            return Some(Refusal::UnfitSet);
+            return Err(Refusal::UnfitSet);
         }
         if property.first.shares(property.second) {
-            return Some(Refusal::SharedContext);
+            return Err(Refusal::SharedContext);
         }
-        None
+        Ok(())
     }
 
     pub fn enter_property(&mut self, number: u16, property: Property) -> Result<(), Refusal>
         ensures { Serves P.Policy.meaning answer (EnterProperty number property) self.old result self.new }
     {
-        match self.property_refusal(number, property) {
-            Some(why) => Err(why),
-            None => {
-                self.properties.put(number, Some(property));
-                Ok(())
-            }
-        }
+        self.check_property(number, property)?;
+        self.properties.put(number, Some(property));
+        Ok(())
     }
 
     pub fn strike_property(&mut self, number: u16) -> Result<(), Refusal>
         ensures { Serves P.Policy.meaning answer (StrikeProperty number) self.old result self.new }
     {
-        if !is_within(64, number) {
-            return Err(Refusal::NumberOutside);
-        }
-        if !self.properties.stands(number) {
-            return Err(Refusal::StandsNot);
-        }
-        self.properties.put(number, None);
-        Ok(())
+        self.properties.strike(number)
     }
 }

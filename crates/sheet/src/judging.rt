@@ -1,10 +1,9 @@
 //! A property that stands is judged.
 ghost use Rattle.std.specs.Prelude.{◌≡◌, length, replicate};
 ghost use Rattle.sheet.specs.Book.{Book};
-ghost use Rattle.sheet.specs.Stands.{Stands, shown};
-ghost use Rattle.sheet.specs.Judging.{Judges, ToJudge};
+ghost use Rattle.sheet.specs.Stands.{Stands};
+ghost use Rattle.sheet.specs.Judging.{Judges};
 
-use crate::numbers::is_within;
 use crate::sheet::Sheet;
 use access::policy::Policy;
 use access::refusal::Refusal;
@@ -12,23 +11,9 @@ use judge::judge::judge;
 use judge::verdict::Verdict;
 use lent::Cleared;
 use moves::step::Step;
-use properties::property::Property;
 use search::Place;
 
 impl<P: Policy> Sheet<P> {
-    /// The property under a number.
-    fn property(&self, number: u16) -> Result<Property, Refusal>
-        ensures { ToJudge (shown P.Policy.meaning self.now) number result }
-    {
-        if !is_within(64, number) {
-            return Err(Refusal::NumberOutside);
-        }
-        match self.properties.get(number) {
-            Some(property) => Ok(property),
-            None => Err(Refusal::StandsNot),
-        }
-    }
-
     /// Judges a property: guaranteed, or broken in so many steps, which then stand in front of `steps` in working order. For n
     /// contexts it takes ticks and places of 2n each, and steps of n. The ticks are handed back all zero in any case.
     pub fn judge(
@@ -41,7 +26,7 @@ impl<P: Policy> Sheet<P> {
         ensures answer { (b : Book) → Stands P.Policy.meaning b self.now → Judges b number ticks.old places.old places.new steps.old steps.new result }
         ensures ticks { ticks.new ≡ replicate (length ticks.old) 0 }
     {
-        match self.property(number) {
+        match self.properties.standing(number) {
             Ok(property) => judge(
                 &self.policy,
                 self.grants.all(),

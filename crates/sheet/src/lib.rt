@@ -8,8 +8,6 @@ pub mod judging;
 pub mod laws;
 mod note;
 mod notes;
-mod noting;
-mod numbers;
 pub mod request;
 pub mod setting;
 pub mod sheet;

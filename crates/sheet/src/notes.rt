@@ -1,15 +1,70 @@
 //! The notes of an open change.
-ghost use Rattle.std.specs.Prelude.{◌≡◌, ◌≤◌, length};
+ghost use Rattle.std.specs.Prelude.{◌≡◌, ◌<◌, [], ◌∷◌, length, nat_le};
+ghost use Rattle.sheet.specs.Noted.{Took};
 
 use crate::note::Note;
+use access::operation_set::OperationSet;
+use std::marker::Model;
 
 /// How many settings an open change notes at most.
-pub const MOST_NOTES: usize = 128;
+const MOST_NOTES: usize = 128;
 
 /// The first `count` of the list are the notes, in the order in which they came.
+// An array and a length: a sheet has fixed memory and no heap.
 #[derive(Drop)]
-pub struct Notes {
-    pub(crate) list: [Note; MOST_NOTES],
-    pub(crate) count: usize,
-    ghost ok: { (length list ≡ 128) × (count ≤ 128) },
+pub(crate) struct Notes {
+    list: [Note; MOST_NOTES],
+    count: usize,
+}
+
+/// Seen as a list of notes, the latest first.
+impl Model for Notes {
+    ghost use Rattle.std.specs.Prelude.{List, ◌≤◌};
+    ghost use Rattle.sheet.specs.declared.note.Note.{Note};
+    ghost use Rattle.sheet.specs.Noted.{latest};
+
+    ghost Value = { List Note };
+
+    ghost view = { λ notes. latest notes.list notes.count };
+
+    ghost invariant = { λ notes. notes.count ≤ 128 };
+}
+
+impl Notes {
+    pub(crate) fn none() -> Notes
+        ensures { result ≡ [] }
+    {
+        let blank = Note {
+            subject: 0,
+            target: 0,
+            before: OperationSet::none(),
+        };
+        Notes {
+            list: [blank; MOST_NOTES],
+            count: 0,
+        }
+    }
+
+    pub(crate) fn are_full(&self) -> bool
+        ensures { result ≡ nat_le 128 (length self.now) }
+    {
+        self.count >= MOST_NOTES
+    }
+
+    /// Adds a note.
+    pub(crate) fn add(&mut self, note: Note)
+        requires { length self.old < 128 }
+        ensures { self.new ≡ note ∷ self.old }
+    {
+        self.list[self.count] = note;
+        self.count += 1;
+    }
+
+    /// Takes the latest note off.
+    pub(crate) fn take_latest(&mut self) -> Option<Note>
+        ensures { Took self.old result self.new }
+    {
+        self.count = self.count.checked_sub(1)?;
+        Some(self.list[self.count])
+    }
 }

@@ -1,18 +1,38 @@
 //! Pairs are set, and the settings of a change withdrawn.
 ghost use Rattle.std.specs.Prelude.{◌≡◌};
 ghost use Rattle.access.specs.Refusals.{answer};
-ghost use Rattle.sheet.specs.Stands.{Serves, spent, with_full_notes};
+ghost use Rattle.sheet.specs.Undo.{undo, Undoable};
+ghost use Rattle.sheet.specs.Book.{notes_full};
+ghost use Rattle.sheet.specs.Stands.{Serves, opened, spent, with_full_notes};
 ghost use Rattle.sheet.specs.declared.request.Request.TheVariants.{Set, Withdraw};
 
 use crate::change::{Change, Undecided};
 use crate::note::Note;
-use crate::numbers::is_within;
+use crate::notes::Notes;
 use crate::sheet::Sheet;
+use access::numbers::is_within;
 use access::operation_set::OperationSet;
 use access::policy::Policy;
 use access::refusal::Refusal;
 
+/// Puts back every set that was noted, the latest first.
+fn put_back<P: Policy>(policy: &mut P, mut notes: Notes)
+    ensures { Undoable notes (P.Policy.meaning policy.old) → P.Policy.meaning policy.new ≡ undo notes (P.Policy.meaning policy.old) }
+{
+    while let Some(note) = notes.take_latest() {
+        // never refused: it returns to what stood before
+        let _ = policy.set(note.subject, note.target, note.before);
+    }
+}
+
 impl<P: Policy> Sheet<P> {
+    /// Whether the open change has no room for one note more.
+    fn is_full(&self) -> bool
+        ensures { result ≡ notes_full (opened self.now.change (P.Policy.meaning self.now.policy)) }
+    {
+        self.change.as_ref().is_some_and(Notes::are_full)
+    }
+
     /// Why a setting is refused while the open change has no room for one note more.
     fn full_refusal(&self, subject: u16, target: u16, operations: OperationSet) -> Refusal
         ensures { result ≡ with_full_notes (P.Policy.meaning self.now.policy) subject target operations.bits }
@@ -36,42 +56,34 @@ impl<P: Policy> Sheet<P> {
     ) -> Result<(), Refusal>
         ensures { Serves P.Policy.meaning answer (Set subject target operations) self.old result self.new }
     {
-        if self.changing && self.notes.are_full() {
+        if self.is_full() {
             return Err(self.full_refusal(subject, target, operations));
         }
         let before = self.policy.written(subject, target);
-        match self.policy.set(subject, target, operations) {
-            Err(why) => Err(why),
-            Ok(()) => {
-                if self.changing {
-                    self.notes.add(Note {
-                        subject,
-                        target,
-                        before,
-                    });
-                }
-                self.settings = self.settings.saturating_add(1);
-                Ok(())
-            }
+        self.policy.set(subject, target, operations)?;
+        self.settings = self.settings.saturating_add(1);
+        if let Some(notes) = &mut self.change {
+            notes.add(Note {
+                subject,
+                target,
+                before,
+            });
         }
+        Ok(())
     }
 
     /// Ends a change and puts back every set that it replaced, the latest first.
     pub fn withdraw(&mut self, change: Change) -> Result<(), Undecided>
         ensures { Serves P.Policy.meaning (spent change) Withdraw self.old result self.new }
     {
-        if !self.changing {
+        let Some(notes) = self.change.take() else {
             return Err(Undecided {
                 why: Refusal::NoneOpen,
                 change,
             });
-        }
+        };
         let Change { opened: () } = change;
-        while let Some(note) = self.notes.take_latest() {
-            // never refused: it returns to what stood before
-            let _ = self.policy.set(note.subject, note.target, note.before);
-        }
-        self.changing = false;
+        put_back(&mut self.policy, notes);
         Ok(())
     }
 }

@@ -17,8 +17,7 @@ pub struct Sheet<P> {
     pub(crate) settings: u32,
     pub(crate) grants: Table<Grant, 32>,
     pub(crate) properties: Table<Property, 64>,
-    pub(crate) changing: bool,
-    pub(crate) notes: Notes,
+    pub(crate) change: Option<Notes>,
 }
 
 impl<P: Policy> Sheet<P> {
@@ -30,8 +29,7 @@ impl<P: Policy> Sheet<P> {
             settings: 0,
             grants: Table::new(),
             properties: Table::new(),
-            changing: false,
-            notes: Notes::none(),
+            change: None,
         }
     }
 

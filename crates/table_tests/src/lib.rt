@@ -13,13 +13,6 @@ mod tests {
 
     const NONE: OperationSet = OperationSet { bits: 0 };
 
-    fn is_full(answer: Result<(), Refusal>) -> bool {
-        match answer {
-            Err(Refusal::PolicyFull) => true,
-            _ => false,
-        }
-    }
-
     // Whether all settings of the subjects 1 to 4 on all 256 targets are accepted: 1,024 pairs.
     fn set_all(table: &mut RecordTable, operations: OperationSet) -> bool {
         let mut accepted = true;
@@ -37,7 +30,7 @@ mod tests {
     fn a_full_table_takes_a_new_pair_after_one_is_emptied(rt: HostRuntime) {
         let mut table = RecordTable::new(256);
         assert!(rt; set_all(&mut table, READ));
-        assert!(rt; is_full(table.set(5, 1, READ)));
+        assert_eq!(rt; table.set(5, 1, READ), Err(Refusal::PolicyFull));
         assert!(rt; table.written(5, 1).is_empty());
         assert!(rt; table.set(2, 7, OperationSet { bits: 9 }).is_ok());
         assert!(rt; table.set(2, 8, NONE).is_ok());
@@ -45,7 +38,7 @@ mod tests {
         assert_eq!(rt; table.written(5, 1).bits, 1);
         assert_eq!(rt; table.written(2, 7).bits, 9);
         assert_eq!(rt; table.written(2, 8).bits, 0);
-        assert!(rt; is_full(table.set(2, 8, READ)));
+        assert_eq!(rt; table.set(2, 8, READ), Err(Refusal::PolicyFull));
     }
 
     #[test]
@@ -53,7 +46,7 @@ mod tests {
         let mut table = RecordTable::new(256);
         for _ in 0..3 {
             assert!(rt; set_all(&mut table, READ));
-            assert!(rt; is_full(table.set(5, 1, READ)));
+            assert_eq!(rt; table.set(5, 1, READ), Err(Refusal::PolicyFull));
             assert!(rt; set_all(&mut table, NONE));
         }
         assert_eq!(rt; table.written(4, 256).bits, 0);

@@ -5,8 +5,6 @@
 ghost use Rattle.verdicts.specs.Laws.{VerdictLaws};
 
 /// The laws of the verdicts hold of the definitions.
-pub fn verdict_laws_stand() -> u8
+pub fn verdict_laws_stand()
     ensures { VerdictLaws }
-{
-    0
-}
+{}

@@ -80,14 +80,9 @@ fn print_pair<P: Policy>(rt: &impl Print, policy: &P, subject: u16, target: u16)
         .written(subject, target)
         .and(policy.permitted(subject, target));
     for number in 0..12u8 {
-        if let Some(operation) = Operation::numbered(number) {
+        if let Ok(operation) = Operation::try_from(number) {
             if allowed.has(operation) {
-                println!(rt;
-                    "  {} may {} {}",
-                    name(subject),
-                    operation.name(),
-                    name(target)
-                )?;
+                println!(rt; "  {} may {operation} {}", name(subject), name(target))?;
             }
         }
     }
@@ -106,7 +101,7 @@ fn print_allowed<P: Policy>(rt: &impl Print, policy: &P) -> io::Result<()> {
 fn print_answer(rt: &impl Print, call: &str, answer: Result<(), Refusal>) -> io::Result<()> {
     match answer {
         Ok(()) => println!(rt; "{call}: accepted"),
-        Err(refusal) => println!(rt; "{call}: refused, number {}", refusal.number()),
+        Err(refusal) => println!(rt; "{call}: refused, number {}", u8::from(refusal)),
     }
 }
 
@@ -127,7 +122,7 @@ fn change<P: Policy>(rt: &impl Print, controller: &mut P) -> io::Result<()> {
 /// Prints a step with the number of the grant that it needs, or 0.
 fn print_step(rt: &impl Print, step: Step) -> io::Result<()> {
     let subject = name(step.subject);
-    let operation = step.operation.name();
+    let operation = step.operation;
     let target = name(step.target);
     let origin = step.origin;
     println!(rt; "    {subject} {operation} {target} {origin}")
@@ -140,7 +135,7 @@ fn print_found(
     steps: &[Step],
 ) -> io::Result<()> {
     match found {
-        Err(refusal) => println!(rt; "  refused, number {}", refusal.number()),
+        Err(refusal) => println!(rt; "  refused, number {}", u8::from(refusal)),
         Ok(None) => println!(rt; "  in no way, however many steps there are"),
         Ok(Some(count)) => {
             println!(rt; "  in {count} steps:")?;

@@ -42,7 +42,7 @@ module _ (n : ℕ) where
 
   -- what the layers leave of a pair of contexts, and of another pair
   piled_set : (level : ℕ → ℕ) (b : Bool) (s t : ℕ) → ℕ
-  piled_set level b s t = level_rule level (owner_rule flat 0 (λ x y. cond b 4095 0)) s t
+  piled_set level b s t = level_rule level s t (owner_rule flat 0 s t (cond b 4095 0))
 
   pub piled_sound : (level : ℕ → ℕ) (vs : List Vector) → T (leb 1 n && (leb n 256 && fits_test vs)) → filled (piled n level vs) ≤ 1024 → Sound (piled n level vs)
   unfolding piled_set

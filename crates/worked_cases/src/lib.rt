@@ -5,8 +5,6 @@
 ghost use Rattle.worked_cases.specs.Controller.{WorkedCases};
 
 /// The worked cases hold of the definitions.
-pub fn worked_cases_stand() -> u8
+pub fn worked_cases_stand()
     ensures { WorkedCases }
-{
-    0
-}
+{}

@@ -1,12 +1,11 @@
-use Rattle.std.proofs.Common.{arith}
-use Rattle.access.proofs.ContextLaws.{from_none, from_some, from_high}
+use Rattle.std.proofs.Common.{arith, le-ltb, lt_of_lt_of_le, pow_mono}
+use Rattle.access.proofs.ContextLaws.{from_told, low_none}
 use Rattle.access.proofs.context_set.any_from.Goals as goal
 
-pub returns-then-k-ge64 : goal.returns-then-k-ge64
-returns-then-k-ge64 c = λ j h. from_high c.args.word j (omega arith) (omega arith)
+pub returns-then-k-lt64 : goal.returns-then-k-lt64
+returns-then-k-lt64 c = from_told c.args.word c.args.k (omega arith)
 
-pub returns-then-word-k-eq0 : goal.returns-then-word-k-eq0
-returns-then-word-k-eq0 c = from_none c.args.word c.args.k c.if-word-k-eq0.true
-
-pub returns : goal.returns
-returns c = from_some c.args.word c.args.k (omega arith) (let n = c.if-word-k-eq0.false in omega arith)
+pub returns-else-k-lt64 : goal.returns-else-k-lt64
+returns-else-k-lt64 c =
+    let past = c.if-k-lt64.false in
+    rw (le-ltb c.args.k 64 past) (low_none c.args.word c.args.k (lt_of_lt_of_le c.ranges.word.fits (pow_mono past)))

@@ -1,5 +1,5 @@
 use Rattle.std.proofs.Common.{arith}
-use Rattle.moves.specs.Grants.{standing}
+use Rattle.moves.specs.Regimes.{meaning_of, grants_of}
 use Rattle.judge.specs.Judged.{property_of}
 use Rattle.judge.proofs.Verdicts.{sure}
 use Rattle.judge.proofs.judge.judge.Goals as goal
@@ -8,8 +8,8 @@ pub returns : goal.returns
 returns g c =
     record {
       answer = (
-        record { ticks_fit = omega (arith, c.if-ticks-n.false, c.contexts-n.ensures); places_fit = omega (arith, c.if-places-n.false, c.contexts-n.ensures); steps_fit = omega (arith, c.if-steps-n.false, c.contexts-n.ensures) },
-        λ o. let j = c.decide.ensures.judged o in (j, sure (g.P.Policy.meaning c.args.policy.now) (standing c.args.grants.now 0) c.args.steps.now c.decide.new.steps (property_of c.args.property) c.decide.result j),
+        record { ticks_fit = omega (arith, c.if-ticks-n.false, c.contexts.ensures, c.from-n.ensures); places_fit = omega (arith, c.if-places-n.false, c.contexts.ensures, c.from-n.ensures); steps_fit = omega (arith, c.if-steps-n.false, c.contexts.ensures, c.from-n.ensures) },
+        λ o. let j = c.decide.ensures.judged o in (j, sure (meaning_of g.P.Policy.meaning c.args.regime.now) (grants_of c.args.regime.now) c.args.steps.now c.decide.new.steps (property_of c.args.property) c.decide.result j),
       );
       ticks = c.decide.ensures.ticks;
     }

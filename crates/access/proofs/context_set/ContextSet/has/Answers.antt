@@ -1,12 +1,12 @@
-use Rattle.std.proofs.Common.{ℕ, ◌-◌, ◌/◌, ◌%◌, ◌^◌, eqb, get_or, sym, ap, ◌∙◌, arith}
-use lib.Bits.{and_mask}
-use Rattle.access.proofs.ContextLaws.{member_in, member_out}
+use Rattle.std.proofs.Common.{eqb, sym, ap, ◌∙◌}
+use Rattle.std.proofs.lemmas.Nat.Bits.{shr_and_one}
+use Rattle.access.proofs.ContextLaws.{index_told, member_at, member_off}
 use Rattle.access.proofs.context_set.ContextSet.has.Goals as goal
 
-pub returns-then-context-eq0 : goal.returns-then-context-eq0
-returns-then-context-eq0 c = sym (member_out c.args.self c.args.context (λ h l. omega arith))
+pub returns-in_default : goal.returns-in_default
+returns-in_default c = member_off c.args.self c.args.context c.in_default.ensures
 
 pub returns : goal.returns
 returns c =
-    let i : ℕ = c.args.context - 1 in
-    ap (λ (z : ℕ). eqb z 1) (and_mask (get_or c.args.self.words (i / 64) 0 / 2 ^ (i % 64)) 1) ∙ sym (member_in c.args.self c.args.context (omega arith) (omega arith))
+    let p = index_told 256 c.args.context c.in-Some.i c.in-Some.ensures in
+    rw p.1 (ap (λ x. eqb x 1) (shr_and_one _ _) ∙ sym (member_at c.args.self c.in-Some.i p.0))
