@@ -9,7 +9,7 @@ use std::array;
 pub(crate) const UNUSED: u16 = 0;
 
 /// One record of a chain: the next one's number is 0 where the chain ends.
-#[derive(Clone, Copy)]
+#[derive(Clone, Copy, Debug, PartialEq, Eq)]
 pub struct Record {
     pub(crate) target: u16,
     pub(crate) operations: OperationSet,
