@@ -48,15 +48,15 @@ total_set ts (suc n) v l k e =
 pub used_le : (p : Problem) (ts : List ℕ) (ps : List Place) (used : ℕ) → Queue p ts ps used → used ≤ p.nodes
 used_le p ts ps used q = omega (arith, q.counted, total_le ts p.nodes q.marks)
 
--- the places below `used` are the same
-sound_kept : (p : Problem) (ps ps' : List Place) (used i : ℕ) (q : Place) → ((j : ℕ) → j < used → at ps' j ≡ at ps j) →
-    i ≤ used → Sound p ps i q → Sound p ps' i q
-sound_kept p ps ps' used i q same l s =
+-- a sound place stays sound, further on too, where the places before it stay
+pub sound_kept : (p : Problem) {ps ps' : List Place} {used i j : ℕ} {q : Place} → ((k : ℕ) → k < used → at ps' k ≡ at ps k) → i ≤ used → i ≤ j →
+    Sound p ps i q → Sound p ps' j q
+sound_kept p {q = q} same l m s =
     record {
       node = s.node;
-      low = s.low;
+      low = omega (arith, s.low);
       source = s.source;
-      earlier = s.earlier;
+      earlier = λ h. omega (arith, s.earlier h);
       after = λ h. subst (λ b. After p b q) (sym (same q.parent (omega (arith, s.earlier h)))) (s.after h);
     }
 
@@ -99,11 +99,11 @@ module _ (p : Problem) (ts : List ℕ) (ps : List Place) (used : ℕ) (q : Place
   sound : (i : ℕ) → i < used + 1 → Sound p (set ps used q) i (at (set ps used q) i)
   sound i l =
       ⊎_elim
-      (λ (h : i < used). subst (λ x. Sound p (set ps used q) i x) (sym (same i h)) (sound_kept p ps (set ps used q) used i (at ps i) same (omega arith) (r.queue.sound i h)))
+      (λ (h : i < used). subst (λ x. Sound p (set ps used q) i x) (sym (same i h)) (sound_kept p same (omega arith) (omega arith) (r.queue.sound i h)))
       (λ (h : used ≤ i).
       let e : used ≡ i = omega arith in
       subst (λ k. Sound p (set ps used q) k (at (set ps used q) k)) e
-      (subst (λ x. Sound p (set ps used q) used x) (sym new) (sound_kept p ps (set ps used q) used used q same (omega arith) s)))
+      (subst (λ x. Sound p (set ps used q) used x) (sym new) (sound_kept p same (omega arith) (omega arith) s)))
       (cases_lt i used)
 
   depth_old : (i : ℕ) → i < used → (at (set ps used q) i).depth ≡ (at ps i).depth
