@@ -1,7 +1,7 @@
 -- What a push does to the queue, and how steps follow one another.
-use Rattle.std.proofs.Common.{◌≡◌, ℕ, zero, suc, ◌+◌, ◌-◌, ◌<◌, ◌≤◌, Bool, true, false, not, eqb, ◌≢◌, ◌⊎◌, List, length, get_or, set, sym, refl, ap, ◌∙◌, subst, inl, inr, ⊎_elim, arith, get_or-set_other, get_or-set_same}
+use Rattle.std.proofs.Common.{◌≡◌, ℕ, zero, suc, ◌+◌, ◌-◌, ◌<◌, ◌≤◌, Bool, true, false, ◌≢◌, ◌⊎◌, List, length, get_or, set, sym, refl, ap, ◌∙◌, subst, inl, inr, ⊎_elim, arith, get_or-set_other, get_or-set_same}
 use Rattle.std.proofs.lemmas.List.{length-set}
-use Rattle.std.proofs.lemmas.Bool.{both_ways, cases_eq, cases_lt, eqb-true, eqb-false, not-true, not-false}
+use Rattle.std.proofs.lemmas.Bool.{both_ways, cases_eq, cases_lt}
 use Rattle.lent.specs.declared.Cleared.{Cleared}
 use Rattle.lent.specs.declared.List.{List as Places}
 use Rattle.search.specs.Problem.{Problem}
@@ -212,93 +212,13 @@ module _ (p : Problem) {t₀ t₁ t₂ : List ℕ} {s₀ s₁ s₂ : List Place}
         beyond = λ i l. h.beyond i l ∙ g.beyond i (omega (arith, h.further));
       }
 
-  pub went_struck : (d : ℕ) {S : ℕ → Type 0} → Went p t₀ t₁ s₀ s₁ a b d S → Struck p t₁ t₂ s₁ s₂ b c d → Struck p t₀ t₂ s₀ s₂ a c d
-  went_struck d g h = record { grown = grown_then g.grown h.grown; some = h.some; target = h.target; depth = h.depth }
-
-  -- a loop over all nodes visits the node i
-  pub went_visit : (d i : ℕ) (P : ℕ → Type 0) → Went p t₀ t₁ s₀ s₁ a b d (λ v. (v < i) × P v) → Went p t₁ t₂ s₁ s₂ b c d (λ v. v ≡ i) →
-      Went p t₀ t₂ s₀ s₂ a c d (λ v. (v < i + 1) × P v)
-  went_visit d i P g h =
-      record {
-        grown = grown_then g.grown h.grown;
-        «open» = h.«open»;
-        within = h.within;
-        covers = λ v l s.
-            ⊎_elim
-            (λ (k : v < i). at_kept h.grown.same h.grown.further (omega arith) (g.covers v l (k, s.1)))
-            (λ (k : i ≤ v). h.covers v l (omega (arith, s.0)))
-            (cases_lt v i);
-      }
-
 module _ (p : Problem) {t₀ t₁ : List ℕ} {s₀ s₁ : List Place} {a b : ℕ} (d : ℕ) where
   pub ready : {S : ℕ → Type 0} → Went p t₀ t₁ s₀ s₁ a b d S → Ready p t₁ s₁ b d
   ready g = record { queue = g.grown.queue; «open» = g.«open»; within = g.within }
-
-  -- a loop over all nodes passes over the node i
-  went_pass : (i : ℕ) (P : ℕ → Type 0) → Went p t₀ t₁ s₀ s₁ a b d (λ v. (v < i) × P v) → (P i → At s₁ b i d) →
-      Went p t₀ t₁ s₀ s₁ a b d (λ v. (v < i + 1) × P v)
-  went_pass i P g here =
-      record {
-        grown = g.grown;
-        «open» = g.«open»;
-        within = g.within;
-        covers = λ v l s.
-            ⊎_elim
-            (λ (h : v < i). g.covers v l (h, s.1))
-            (λ (h : i ≤ v).
-            let e : v ≡ i = omega (arith, s.0) in
-            subst (λ x. At s₁ b x d) (sym e) (here (subst P e s.1)))
-            (cases_lt v i);
-      }
-
-  -- since nothing leads there
-  pub went_skip : (i : ℕ) (P : ℕ → Type 0) → Went p t₀ t₁ s₀ s₁ a b d (λ v. (v < i) × P v) → (P i → ⊥) →
-      Went p t₀ t₁ s₀ s₁ a b d (λ v. (v < i + 1) × P v)
-  went_skip i P g none = went_pass i P g (λ h. absurd (none h))
-
-  -- since it has a tick
-  pub went_ticked : (i : ℕ) (P : ℕ → Type 0) → Went p t₀ t₁ s₀ s₁ a b d (λ v. (v < i) × P v) → i < p.nodes → (get_or t₁ i 0 ≡ 0 → ⊥) →
-      Went p t₀ t₁ s₀ s₁ a b d (λ v. (v < i + 1) × P v)
-  went_ticked i P g l none =
-      let one : get_or t₁ i 0 ≡ 1 = omega (arith, g.grown.queue.marks i l) in
-      let w = g.grown.queue.placed i l one in
-      went_pass i P g (λ _. record { index = w.0; below = w.1; is = w.2; depth = g.within w.0 w.1 })
-
-  pub went_all : (n : ℕ) (P : ℕ → Type 0) → Went p t₀ t₁ s₀ s₁ a b d (λ v. (v < n) × P v) → p.nodes ≤ n → Went p t₀ t₁ s₀ s₁ a b d P
-  went_all n P g l =
-      record { grown = g.grown; «open» = g.«open»; within = g.within; covers = λ v k s. g.covers v k (omega arith, s) }
-
--- a loop over all nodes begins
-pub went_none : (p : Problem) (ts : List ℕ) (ps : List Place) (used d : ℕ) (P : ℕ → Type 0) → Ready p ts ps used d →
-    Went p ts ts ps ps used used d (λ v. (v < 0) × P v)
-went_none p ts ps used d P r =
-    record {
-      grown = record { queue = r.queue; sized = refl; further = omega arith; same = λ i l. refl; beyond = λ i l. refl };
-      «open» = r.«open»;
-      within = r.within;
-      covers = λ v l s. absurd (omega (arith, s.0));
-    }
-
--- a place that is pushed one deeper than b, by an edge from b
-pub after_from : (p : Problem) {b b' : Place} (q : Place) → b ≡ b' → p.edge b.node q.node ≡ true → q.depth ≡ b.depth + 1 → After p b' q
-after_from p q e t d = subst (λ x. After p x q) e (record { edge = t; depth = d })
 
 -- what a loop over all nodes keeps: it went over the nodes of S, on the same lent memory
 abbrev pub Turn : Problem → Cleared → Cleared → Places Place → Places Place → ℕ → (ℕ → Type 0) → Type 0
 Turn p t t' q q' d S = Stepped p t t' q q' d S false × Lent t t' q q'
 
--- the same, under other names
-pub turn_at : (p : Problem) (t : Cleared) {t₁ t₂ : Cleared} (q : Places Place) {q₁ q₂ : Places Place} (d : ℕ) (S : ℕ → Type 0) → t₂ ≡ t₁ → q₂ ≡ q₁ →
-    Turn p t t₁ q q₁ d S → Turn p t t₂ q q₂ d S
-turn_at p t {t₁} {t₂} q {q₁} {q₂} d S e f g =
-    subst (λ (x : Cleared). Turn p t x q q₂ d S) (sym e) (subst (λ (x : Places Place). Turn p t t₁ q x d S) (sym f) g)
-
 pub lent_then : {a b c d e f : ℕ} → (b ≡ a) × (e ≡ d) → (c ≡ b) × (f ≡ e) → (c ≡ a) × (f ≡ d)
 lent_then g h = (h.0 ∙ g.0, h.1 ∙ g.1)
-
--- a byte that is not ticked is zero, and one that is ticked is not
-pub untold : (n : ℕ) → false ≡ not (eqb n 0) → n ≡ 0
-untold n e = eqb-true n 0 (not-false _ (sym e))
-
-pub told : (n : ℕ) → true ≡ not (eqb n 0) → n ≡ 0 → ⊥
-told n e = eqb-false n 0 (not-true _ (sym e))

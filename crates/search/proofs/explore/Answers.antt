@@ -3,7 +3,7 @@ use Rattle.std.proofs.lemmas.List.{get_or_default}
 use Rattle.search.specs.Queue.{blank, at}
 use Rattle.search.specs.declared.Place.{Place}
 use Rattle.search.proofs.Frontier.{used_le, lent_then}
-use Rattle.search.proofs.Distance.{nowhere, found, found_next, kept, spread_more}
+use Rattle.search.proofs.Distance.{nowhere, found, found_next, kept, spread_none, spread_more}
 use Rattle.search.proofs.explore.Goals as goal
 
 pub returns-then-start-clause-ended : goal.returns-then-start-clause-ended
@@ -12,11 +12,11 @@ returns-then-start-clause-ended g c = found _ c.if-start.ensures.stepped (λ b k
 pub returns-then-start-clause-kept : goal.returns-then-start-clause-kept
 returns-then-start-clause-kept g c = kept _ c.if-start.ensures.stepped.grown
 
+pub loop-head-init : goal.loop-head-init
+loop-head-init g c = let s = c.if-start.ensures in (spread_none _ s.stepped, s.lent, s.stepped.grown.sized, kept _ s.stepped.grown)
+
 pub returns-in_default-clause-ended : goal.returns-in_default-clause-ended
 returns-in_default-clause-ended g c = nowhere _ _ _ _ _ c.loop-head.invariant.0 c.in_default.ensures
-
-pub returns-in_default-clause-kept : goal.returns-in_default-clause-kept
-returns-in_default-clause-kept g c = λ i l. c.loop-head.invariant.3 i l ∙ kept _ c.if-start.ensures.stepped.grown i l
 
 -- the place that is scanned next
 here : (ps : List Place) (used head : ℕ) (from : Place) → used ≤ length ps → (head < used) × (get_or ps head from ≡ from) → at ps head ≡ from
@@ -28,7 +28,7 @@ returns-then-scan-clause-ended g c =
 
 pub returns-then-scan-clause-kept : goal.returns-then-scan-clause-kept
 returns-then-scan-clause-kept g c =
-    λ i l. kept _ c.if-scan.ensures.stepped.grown i l ∙ c.loop-head.invariant.3 i l ∙ kept _ c.if-start.ensures.stepped.grown i l
+    λ i l. kept _ c.if-scan.ensures.stepped.grown i l ∙ c.loop-head.invariant.3 i l
 
 pub loop-head-preserved : goal.loop-head-preserved
 loop-head-preserved g c =
@@ -41,6 +41,3 @@ loop-head-preserved g c =
 
 pub returns-clause-ended : goal.returns-clause-ended
 returns-clause-ended g c = let s = c.loop-head.invariant.0 in nowhere _ _ _ _ _ s (omega (arith, used_le _ _ _ _ s.queue))
-
-pub returns-clause-kept : goal.returns-clause-kept
-returns-clause-kept g c = λ i l. c.loop-head.invariant.3 i l ∙ kept _ c.if-start.ensures.stepped.grown i l
