@@ -44,6 +44,14 @@ total_set ts (suc n) v l k e =
     omega (arith, get_or-set_other ts v n 1 0 ne, total_set ts n v l' k e))
     (cases_eq v n)
 
+-- one tick more, and each is still one at most
+pub marks_set : (ts : List ℕ) (v w : ℕ) → v < length ts → get_or ts w 0 ≤ 1 → get_or (set ts v 1) w 0 ≤ 1
+marks_set ts v w k l =
+    ⊎_elim
+    (λ (e : w ≡ v). subst (λ u. get_or (set ts v 1) u 0 ≤ 1) (sym e) (omega (arith, get_or-set_same ts v 1 0 k)))
+    (λ (e : w ≡ v → ⊥). let ne : w ≢ v = e in omega (arith, get_or-set_other ts v w 1 0 ne, l))
+    (cases_eq w v)
+
 -- there are never more places than nodes
 pub used_le : (p : Problem) (ts : List ℕ) (ps : List Place) (used : ℕ) → Queue p ts ps used → used ≤ p.nodes
 used_le p ts ps used q = omega (arith, q.counted, total_le ts p.nodes q.marks)
@@ -76,15 +84,8 @@ module _ (p : Problem) (ts : List ℕ) (ps : List Place) (used : ℕ) (q : Place
   ticked : (v : ℕ) → (v ≡ q.node) ⊎ (get_or (set ts q.node 1) v 0 ≡ get_or ts v 0)
   ticked v = ⊎_elim (λ e. inl e) (λ (e : v ≡ q.node → ⊥). let ne : v ≢ q.node = e in inr (get_or-set_other ts q.node v 1 0 ne)) (cases_eq v q.node)
 
-  tick : get_or (set ts q.node 1) q.node 0 ≡ 1
-  tick = get_or-set_same ts q.node 1 0 (omega (arith, s.node, r.queue.fits.ticks))
-
   marks : (v : ℕ) → v < p.nodes → get_or (set ts q.node 1) v 0 ≤ 1
-  marks v l =
-      ⊎_elim
-      (λ (e : v ≡ q.node). subst (λ k. get_or (set ts q.node 1) k 0 ≤ 1) (sym e) (omega (arith, tick)))
-      (λ (e : get_or (set ts q.node 1) v 0 ≡ get_or ts v 0). omega (arith, e, r.queue.marks v l))
-      (ticked v)
+  marks v l = marks_set ts q.node v (omega (arith, s.node, r.queue.fits.ticks)) (r.queue.marks v l)
 
   placed : (v : ℕ) → v < p.nodes → get_or (set ts q.node 1) v 0 ≡ 1 → (i : ℕ) × (i < used + 1) × ((at (set ps used q) i).node ≡ v)
   placed v l o =

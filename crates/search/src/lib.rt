@@ -42,7 +42,7 @@ pub trait Graph {
 }
 
 /// Pushes a place of a node that has none, and says whether the node is a target.
-// Here and below the ticks and the places are two arguments: from a struct of both it was not proved what the lent memory holds afterwards.
+// No struct holds the graph, the ticks and the places: once a guard lies in a struct, it is not proved what it leaves in the lent memory.
 fn visit<G: Graph>(
     graph: &G,
     ticks: &mut Cleared<'_>,
