@@ -5,7 +5,7 @@
 ghost use Rattle.std.specs.Prelude.{◌≡◌, ◌<◌, ◌≤◌, not, length, set, replicate, Some, None, Ok, Err, ◌==◌, slice_index, slice_index_or, slice_set};
 ghost use Rattle.lent.specs.Changes.{Pushed};
 
-/// A list whose items are the first `len` of a lent slice.
+/// A list whose items are the first `len` of a lent slice: memory is lent and fixed, so a vector cannot hold them.
 #[derive(Drop)]
 pub struct List<'a, T> {
     items: &'a mut [T],
@@ -34,6 +34,7 @@ impl<'a, T: Copy> List<'a, T> {
         ensures lender { self.new.items.ghost_name ≡ self.old.items.ghost_name }
         ensures pushed { Pushed self.old.items.now self.old.len item self.new.items.now self.new.len result }
     {
+        // By index, and so in `put` and `tick`: after a `get_mut` of a slice its other items are not known to be the same.
         if self.len < self.items.len() {
             self.items[self.len] = item;
             self.len += 1;
@@ -46,8 +47,7 @@ impl<'a, T: Copy> List<'a, T> {
     pub fn get(&self, i: usize) -> Option<T>
         ensures { elim result [ Some x ↦ (i < self.now.len) × (slice_index_or self.now.items.now i x ≡ x) | None ↦ self.now.len ≤ i ] }
     {
-        let items = &*self.items;
-        if i < self.len { Some(items[i]) } else { None }
+        self.items[..self.len].get(i).copied()
     }
 
     /// Writes `item` over the item `i`, or hands it back where there is none.
@@ -89,8 +89,7 @@ impl<'a> Cleared<'a> {
     pub fn is_ticked(&self, i: usize) -> bool
         ensures { result ≡ not (slice_index self.now.bytes.now i == 0) }
     {
-        let bytes = &*self.bytes;
-        i < bytes.len() && bytes[i] != 0
+        self.bytes.get(i).is_some_and(|byte| *byte != 0)
     }
 
     /// Ticks the byte `i`, if there is one.

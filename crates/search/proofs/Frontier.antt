@@ -1,7 +1,7 @@
 -- What a push does to the queue, and how steps follow one another.
-use Rattle.std.proofs.Common.{◌≡◌, ℕ, zero, suc, ◌+◌, ◌-◌, ◌<◌, ◌≤◌, Bool, true, false, not, eqb, ◌≢◌, ◌⊎◌, List, length, get_or, set, sym, refl, ap, ◌∙◌, subst, inl, inr, ⊎_elim, arith, get_or-set_other, get_or-set_same}
+use Rattle.std.proofs.Common.{◌≡◌, ℕ, zero, suc, ◌+◌, ◌-◌, ◌<◌, ◌≤◌, Bool, true, false, ◌≢◌, ◌⊎◌, List, length, get_or, set, sym, refl, ap, ◌∙◌, subst, inl, inr, ⊎_elim, arith, get_or-set_other, get_or-set_same}
 use Rattle.std.proofs.lemmas.List.{length-set}
-use Rattle.std.proofs.lemmas.Bool.{both_ways, cases_eq, cases_lt, eqb-true, eqb-false, not-true, not-false}
+use Rattle.std.proofs.lemmas.Bool.{both_ways, cases_eq, cases_lt}
 use Rattle.lent.specs.declared.Cleared.{Cleared}
 use Rattle.lent.specs.declared.List.{List as Places}
 use Rattle.search.specs.Problem.{Problem}
@@ -44,19 +44,27 @@ total_set ts (suc n) v l k e =
     omega (arith, get_or-set_other ts v n 1 0 ne, total_set ts n v l' k e))
     (cases_eq v n)
 
+-- one tick more, and each is still one at most
+pub marks_set : (ts : List ℕ) (v w : ℕ) → v < length ts → get_or ts w 0 ≤ 1 → get_or (set ts v 1) w 0 ≤ 1
+marks_set ts v w k l =
+    ⊎_elim
+    (λ (e : w ≡ v). subst (λ u. get_or (set ts v 1) u 0 ≤ 1) (sym e) (omega (arith, get_or-set_same ts v 1 0 k)))
+    (λ (e : w ≡ v → ⊥). let ne : w ≢ v = e in omega (arith, get_or-set_other ts v w 1 0 ne, l))
+    (cases_eq w v)
+
 -- there are never more places than nodes
 pub used_le : (p : Problem) (ts : List ℕ) (ps : List Place) (used : ℕ) → Queue p ts ps used → used ≤ p.nodes
 used_le p ts ps used q = omega (arith, q.counted, total_le ts p.nodes q.marks)
 
--- the places below `used` are the same
-sound_kept : (p : Problem) (ps ps' : List Place) (used i : ℕ) (q : Place) → ((j : ℕ) → j < used → at ps' j ≡ at ps j) →
-    i ≤ used → Sound p ps i q → Sound p ps' i q
-sound_kept p ps ps' used i q same l s =
+-- a sound place stays sound, further on too, where the places before it stay
+pub sound_kept : (p : Problem) {ps ps' : List Place} {used i j : ℕ} {q : Place} → ((k : ℕ) → k < used → at ps' k ≡ at ps k) → i ≤ used → i ≤ j →
+    Sound p ps i q → Sound p ps' j q
+sound_kept p {q = q} same l m s =
     record {
       node = s.node;
-      low = s.low;
+      low = omega (arith, s.low);
       source = s.source;
-      earlier = s.earlier;
+      earlier = λ h. omega (arith, s.earlier h);
       after = λ h. subst (λ b. After p b q) (sym (same q.parent (omega (arith, s.earlier h)))) (s.after h);
     }
 
@@ -76,15 +84,8 @@ module _ (p : Problem) (ts : List ℕ) (ps : List Place) (used : ℕ) (q : Place
   ticked : (v : ℕ) → (v ≡ q.node) ⊎ (get_or (set ts q.node 1) v 0 ≡ get_or ts v 0)
   ticked v = ⊎_elim (λ e. inl e) (λ (e : v ≡ q.node → ⊥). let ne : v ≢ q.node = e in inr (get_or-set_other ts q.node v 1 0 ne)) (cases_eq v q.node)
 
-  tick : get_or (set ts q.node 1) q.node 0 ≡ 1
-  tick = get_or-set_same ts q.node 1 0 (omega (arith, s.node, r.queue.fits.ticks))
-
   marks : (v : ℕ) → v < p.nodes → get_or (set ts q.node 1) v 0 ≤ 1
-  marks v l =
-      ⊎_elim
-      (λ (e : v ≡ q.node). subst (λ k. get_or (set ts q.node 1) k 0 ≤ 1) (sym e) (omega (arith, tick)))
-      (λ (e : get_or (set ts q.node 1) v 0 ≡ get_or ts v 0). omega (arith, e, r.queue.marks v l))
-      (ticked v)
+  marks v l = marks_set ts q.node v (omega (arith, s.node, r.queue.fits.ticks)) (r.queue.marks v l)
 
   placed : (v : ℕ) → v < p.nodes → get_or (set ts q.node 1) v 0 ≡ 1 → (i : ℕ) × (i < used + 1) × ((at (set ps used q) i).node ≡ v)
   placed v l o =
@@ -99,11 +100,11 @@ module _ (p : Problem) (ts : List ℕ) (ps : List Place) (used : ℕ) (q : Place
   sound : (i : ℕ) → i < used + 1 → Sound p (set ps used q) i (at (set ps used q) i)
   sound i l =
       ⊎_elim
-      (λ (h : i < used). subst (λ x. Sound p (set ps used q) i x) (sym (same i h)) (sound_kept p ps (set ps used q) used i (at ps i) same (omega arith) (r.queue.sound i h)))
+      (λ (h : i < used). subst (λ x. Sound p (set ps used q) i x) (sym (same i h)) (sound_kept p same (omega arith) (omega arith) (r.queue.sound i h)))
       (λ (h : used ≤ i).
       let e : used ≡ i = omega arith in
       subst (λ k. Sound p (set ps used q) k (at (set ps used q) k)) e
-      (subst (λ x. Sound p (set ps used q) used x) (sym new) (sound_kept p ps (set ps used q) used used q same (omega arith) s)))
+      (subst (λ x. Sound p (set ps used q) used x) (sym new) (sound_kept p same (omega arith) (omega arith) s)))
       (cases_lt i used)
 
   depth_old : (i : ℕ) → i < used → (at (set ps used q) i).depth ≡ (at ps i).depth
@@ -212,93 +213,13 @@ module _ (p : Problem) {t₀ t₁ t₂ : List ℕ} {s₀ s₁ s₂ : List Place}
         beyond = λ i l. h.beyond i l ∙ g.beyond i (omega (arith, h.further));
       }
 
-  pub went_struck : (d : ℕ) {S : ℕ → Type 0} → Went p t₀ t₁ s₀ s₁ a b d S → Struck p t₁ t₂ s₁ s₂ b c d → Struck p t₀ t₂ s₀ s₂ a c d
-  went_struck d g h = record { grown = grown_then g.grown h.grown; some = h.some; target = h.target; depth = h.depth }
-
-  -- a loop over all nodes visits the node i
-  pub went_visit : (d i : ℕ) (P : ℕ → Type 0) → Went p t₀ t₁ s₀ s₁ a b d (λ v. (v < i) × P v) → Went p t₁ t₂ s₁ s₂ b c d (λ v. v ≡ i) →
-      Went p t₀ t₂ s₀ s₂ a c d (λ v. (v < i + 1) × P v)
-  went_visit d i P g h =
-      record {
-        grown = grown_then g.grown h.grown;
-        «open» = h.«open»;
-        within = h.within;
-        covers = λ v l s.
-            ⊎_elim
-            (λ (k : v < i). at_kept h.grown.same h.grown.further (omega arith) (g.covers v l (k, s.1)))
-            (λ (k : i ≤ v). h.covers v l (omega (arith, s.0)))
-            (cases_lt v i);
-      }
-
 module _ (p : Problem) {t₀ t₁ : List ℕ} {s₀ s₁ : List Place} {a b : ℕ} (d : ℕ) where
   pub ready : {S : ℕ → Type 0} → Went p t₀ t₁ s₀ s₁ a b d S → Ready p t₁ s₁ b d
   ready g = record { queue = g.grown.queue; «open» = g.«open»; within = g.within }
-
-  -- a loop over all nodes passes over the node i
-  went_pass : (i : ℕ) (P : ℕ → Type 0) → Went p t₀ t₁ s₀ s₁ a b d (λ v. (v < i) × P v) → (P i → At s₁ b i d) →
-      Went p t₀ t₁ s₀ s₁ a b d (λ v. (v < i + 1) × P v)
-  went_pass i P g here =
-      record {
-        grown = g.grown;
-        «open» = g.«open»;
-        within = g.within;
-        covers = λ v l s.
-            ⊎_elim
-            (λ (h : v < i). g.covers v l (h, s.1))
-            (λ (h : i ≤ v).
-            let e : v ≡ i = omega (arith, s.0) in
-            subst (λ x. At s₁ b x d) (sym e) (here (subst P e s.1)))
-            (cases_lt v i);
-      }
-
-  -- since nothing leads there
-  pub went_skip : (i : ℕ) (P : ℕ → Type 0) → Went p t₀ t₁ s₀ s₁ a b d (λ v. (v < i) × P v) → (P i → ⊥) →
-      Went p t₀ t₁ s₀ s₁ a b d (λ v. (v < i + 1) × P v)
-  went_skip i P g none = went_pass i P g (λ h. absurd (none h))
-
-  -- since it has a tick
-  pub went_ticked : (i : ℕ) (P : ℕ → Type 0) → Went p t₀ t₁ s₀ s₁ a b d (λ v. (v < i) × P v) → i < p.nodes → (get_or t₁ i 0 ≡ 0 → ⊥) →
-      Went p t₀ t₁ s₀ s₁ a b d (λ v. (v < i + 1) × P v)
-  went_ticked i P g l none =
-      let one : get_or t₁ i 0 ≡ 1 = omega (arith, g.grown.queue.marks i l) in
-      let w = g.grown.queue.placed i l one in
-      went_pass i P g (λ _. record { index = w.0; below = w.1; is = w.2; depth = g.within w.0 w.1 })
-
-  pub went_all : (n : ℕ) (P : ℕ → Type 0) → Went p t₀ t₁ s₀ s₁ a b d (λ v. (v < n) × P v) → p.nodes ≤ n → Went p t₀ t₁ s₀ s₁ a b d P
-  went_all n P g l =
-      record { grown = g.grown; «open» = g.«open»; within = g.within; covers = λ v k s. g.covers v k (omega arith, s) }
-
--- a loop over all nodes begins
-pub went_none : (p : Problem) (ts : List ℕ) (ps : List Place) (used d : ℕ) (P : ℕ → Type 0) → Ready p ts ps used d →
-    Went p ts ts ps ps used used d (λ v. (v < 0) × P v)
-went_none p ts ps used d P r =
-    record {
-      grown = record { queue = r.queue; sized = refl; further = omega arith; same = λ i l. refl; beyond = λ i l. refl };
-      «open» = r.«open»;
-      within = r.within;
-      covers = λ v l s. absurd (omega (arith, s.0));
-    }
-
--- a place that is pushed one deeper than b, by an edge from b
-pub after_from : (p : Problem) {b b' : Place} (q : Place) → b ≡ b' → p.edge b.node q.node ≡ true → q.depth ≡ b.depth + 1 → After p b' q
-after_from p q e t d = subst (λ x. After p x q) e (record { edge = t; depth = d })
 
 -- what a loop over all nodes keeps: it went over the nodes of S, on the same lent memory
 abbrev pub Turn : Problem → Cleared → Cleared → Places Place → Places Place → ℕ → (ℕ → Type 0) → Type 0
 Turn p t t' q q' d S = Stepped p t t' q q' d S false × Lent t t' q q'
 
--- the same, under other names
-pub turn_at : (p : Problem) (t : Cleared) {t₁ t₂ : Cleared} (q : Places Place) {q₁ q₂ : Places Place} (d : ℕ) (S : ℕ → Type 0) → t₂ ≡ t₁ → q₂ ≡ q₁ →
-    Turn p t t₁ q q₁ d S → Turn p t t₂ q q₂ d S
-turn_at p t {t₁} {t₂} q {q₁} {q₂} d S e f g =
-    subst (λ (x : Cleared). Turn p t x q q₂ d S) (sym e) (subst (λ (x : Places Place). Turn p t t₁ q x d S) (sym f) g)
-
 pub lent_then : {a b c d e f : ℕ} → (b ≡ a) × (e ≡ d) → (c ≡ b) × (f ≡ e) → (c ≡ a) × (f ≡ d)
 lent_then g h = (h.0 ∙ g.0, h.1 ∙ g.1)
-
--- a byte that is not ticked is zero, and one that is ticked is not
-pub untold : (n : ℕ) → false ≡ not (eqb n 0) → n ≡ 0
-untold n e = eqb-true n 0 (not-false _ (sym e))
-
-pub told : (n : ℕ) → true ≡ not (eqb n 0) → n ≡ 0 → ⊥
-told n e = eqb-false n 0 (not-true _ (sym e))

@@ -1,12 +1,12 @@
 -- A shortest walk in a graph of n contexts at phases repeats no context, so it has fewer than n edges.
-use Rattle.std.proofs.Common.{◌≡◌, ℕ, suc, ◌+◌, ◌<◌, ◌≤◌, true, ◌≢◌, ◌⊎◌, List, length, get_or, set, replicate, sym, refl, ◌∙◌, subst, inl, inr, ⊎_elim, arith, get_or-set_other, get_or-set_same}
+use Rattle.std.proofs.Common.{◌≡◌, ℕ, suc, ◌+◌, ◌<◌, ◌≤◌, true, ◌≢◌, ◌⊎◌, List, length, get_or, set, replicate, sym, refl, ◌∙◌, subst, inl, inr, ⊎_elim, arith, get_or-set_other}
 use Rattle.std.proofs.lemmas.List.{length-set, length-replicate, get_or-replicate}
 use Rattle.std.proofs.lemmas.Bool.{cases_eq}
 use Rattle.search.specs.Problem.{Problem, Walk, Least, Short}
 use Rattle.search.specs.Problem.Walk.{stay, step}
 use Rattle.search.specs.Phased.{Phased}
 use Rattle.search.specs.Queue.{total}
-use Rattle.search.proofs.Frontier.{total_set, total_le}
+use Rattle.search.proofs.Frontier.{total_set, total_le, marks_set}
 use Rattle.search.proofs.Distance.{total_none}
 
 inside : {p : Problem} {a b k : ℕ} → Walk p a b k → b < p.nodes
@@ -65,11 +65,7 @@ module _ (p : Problem) (n : ℕ) (h : Phased p n) (a : ℕ) where
       let in_ts : h.context w < length ts = omega (arith, s.size) in
       record {
         size = simp length-set s.size;
-        marks = λ c m.
-            ⊎_elim
-            (λ (e : c ≡ h.context w). subst (λ k. get_or (set ts (h.context w) 1) k 0 ≤ 1) (sym e) (omega (arith, get_or-set_same ts (h.context w) 1 0 in_ts)))
-            (λ (e : c ≡ h.context w → ⊥). let ne : c ≢ h.context w = e in omega (arith, get_or-set_other ts (h.context w) c 1 0 ne, s.marks c m))
-            (cases_eq c (h.context w));
+        marks = λ c m. marks_set ts (h.context w) c in_ts (s.marks c m);
         counted = omega (arith, total_set ts n (h.context w) c<n in_ts z, s.counted);
         visits = λ c m o.
             ⊎_elim

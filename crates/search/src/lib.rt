@@ -2,22 +2,23 @@
 
 #![tactic(auto)]
 
-ghost use Rattle.std.specs.Prelude.{◌≡◌, ◌+◌, ◌<◌, true, length, replicate, slice_index};
+ghost use Rattle.std.specs.Prelude.{◌≡◌, ℕ, ◌+◌, ◌<◌, true, false, length, replicate, slice_index};
 ghost use Rattle.search.specs.Problem.{Problem};
 ghost use Rattle.search.specs.Queue.{at, Sound, Waiting, Stepped, Lent, Ended, Kept, Answered};
 
 use lent::{Cleared, List};
 
 /// A node that was reached: from which place, and by how many edges.
-#[derive(Clone, Copy)]
+#[derive(Clone, Copy, Debug, Default, PartialEq, Eq)]
 pub struct Place {
     pub node: u16,
+    // Means nothing at depth 0: an `Option` would only say again what the depth says.
     pub parent: u16,
     pub depth: u16,
 }
 
 /// The lent memory is shorter than the graph has nodes.
-#[derive(Clone, Copy)]
+#[derive(Clone, Copy, Debug, PartialEq, Eq)]
 pub struct TooShort;
 
 /// A graph on the numbers below `nodes()`.
@@ -41,6 +42,7 @@ pub trait Graph {
 }
 
 /// Pushes a place of a node that has none, and says whether the node is a target.
+// No struct holds the graph, the ticks and the places: once a guard lies in a struct, it is not proved what it leaves in the lent memory.
 fn visit<G: Graph>(
     graph: &G,
     ticks: &mut Cleared<'_>,
@@ -58,23 +60,32 @@ fn visit<G: Graph>(
     graph.target(place.node)
 }
 
-/// Pushes the sources, until one is a target.
-fn start<G: Graph>(graph: &G, ticks: &mut Cleared<'_>, places: &mut List<'_, Place>) -> bool
-    requires { Waiting (G.problem graph.now) ticks.old places.old 0 }
+/// Visits the nodes without a tick for which `leads` holds, until one is a target. It asks only about nodes without a tick.
+fn visit_all<G: Graph, F: Fn(u16) -> bool>(
+    graph: &G,
+    ticks: &mut Cleared<'_>,
+    places: &mut List<'_, Place>,
+    parent: u16,
+    depth: u16,
+    leads: F,
+) -> bool
+    requires ready { Waiting (G.problem graph.now) ticks.old places.old depth }
+    requires asked { (v : ℕ) → v < (G.problem graph.now).nodes → F.pre leads v }
+    requires sound { (v : ℕ) → v < (G.problem graph.now).nodes → F.post leads v true → Sound (G.problem graph.now) places.old.items.now places.old.len (record { node = v; parent = parent; depth = depth }) }
     ensures lent { Lent ticks.old ticks.new places.old places.new }
-    ensures stepped { Stepped (G.problem graph.now) ticks.old ticks.new places.old places.new 0 (λ v. (G.problem graph.now).source v ≡ true) result }
+    ensures stepped { Stepped (G.problem graph.now) ticks.old ticks.new places.old places.new depth (λ v. F.post leads v false → ⊥) result }
 {
     for node in 0..graph.nodes() {
         if !ticks.is_ticked(node as usize)
-            && graph.source(node)
+            && leads(node)
             && visit(
                 graph,
                 ticks,
                 places,
                 Place {
                     node,
-                    parent: 0,
-                    depth: 0,
+                    parent,
+                    depth,
                 },
             )
         {
@@ -84,8 +95,16 @@ fn start<G: Graph>(graph: &G, ticks: &mut Cleared<'_>, places: &mut List<'_, Pla
     false
 }
 
-/// Pushes the nodes without a place to which an edge leads from the place `head`, until one is a target.
-/// The graph is asked only about nodes that have no tick.
+/// Visits the sources, until one is a target.
+fn start<G: Graph>(graph: &G, ticks: &mut Cleared<'_>, places: &mut List<'_, Place>) -> bool
+    requires { Waiting (G.problem graph.now) ticks.old places.old 0 }
+    ensures lent { Lent ticks.old ticks.new places.old places.new }
+    ensures stepped { Stepped (G.problem graph.now) ticks.old ticks.new places.old places.new 0 (λ v. (G.problem graph.now).source v ≡ true) result }
+{
+    visit_all(graph, ticks, places, 0, 0, |node| graph.source(node))
+}
+
+/// Visits the nodes to which an edge leads from the place `head`, until one is a target.
 fn scan<G: Graph>(
     graph: &G,
     ticks: &mut Cleared<'_>,
@@ -100,27 +119,17 @@ fn scan<G: Graph>(
     ensures stepped { Stepped (G.problem graph.now) ticks.old ticks.new places.old places.new (from.depth + 1) (λ v. (G.problem graph.now).edge from.node v ≡ true) result }
 {
     let depth = from.depth + 1;
-    for node in 0..graph.nodes() {
-        if !ticks.is_ticked(node as usize)
-            && graph.edge(from.node, node)
-            && visit(
-                graph,
-                ticks,
-                places,
-                Place {
-                    node,
-                    parent: head,
-                    depth,
-                },
-            )
-        {
-            return true;
-        }
-    }
-    false
+    visit_all(
+        graph,
+        ticks,
+        places,
+        head,
+        depth,
+        |node| graph.edge(from.node, node),
+    )
 }
 
-/// Pushes the sources, then scans the places one after another, until a target is met or none is left.
+/// Visits the sources, then scans the places one after another, until a target is met or none is left.
 fn explore<G: Graph>(graph: &G, ticks: &mut Cleared<'_>, places: &mut List<'_, Place>) -> bool
     requires { Waiting (G.problem graph.now) ticks.old places.old 0 }
     ensures lent { Lent ticks.old ticks.new places.old places.new }
@@ -131,12 +140,13 @@ fn explore<G: Graph>(graph: &G, ticks: &mut Cleared<'_>, places: &mut List<'_, P
     if start(graph, ticks, places) {
         return true;
     }
-    let mut head = 0;
-    while let Some(from) = places.get(head as usize) {
+    for head in 0..graph.nodes() {
+        let Some(from) = places.get(head as usize) else {
+            return false;
+        };
         if scan(graph, ticks, places, head, from) {
             return true;
         }
-        head += 1;
     }
     false
 }
