@@ -49,7 +49,7 @@ end w b k = go b.change k
     go : (c : Option Opened) → Copies w c →
         let x : Book = record { policy = b.policy; settings = b.settings; grants = b.grants; properties = b.properties; change = c } in
         (refusal x Withdraw ≡ None) × ((s t : ℕ) → (fed x Withdraw).policy.written s t ≡ w s t)
-    go None k = let e = k.is in let z : ◌≡◌ {A = ℕ} 0 1 = cc in absurd (omega arith)
+    go None k = let e = k.is in absurd (grind arith)
     go (Some o) k = (refl, λ s t. let e = k.is in let h = k.copies in let f : o.copy ≡ w = cc in ap (λ (v : Matrix). v s t) f)
 
 -- opening copies the written sets
