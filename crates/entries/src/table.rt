@@ -45,7 +45,7 @@ impl<E: Copy, const N: usize> Table<E, N> {
         self.entries[index].ok_or(Refusal::StandsNot)
     }
 
-    /// Whether a number is free to be entered.
+    /// Checks that a number is free to be entered.
     pub fn vacant(&self, number: u16) -> Result<(), Refusal>
         ensures { result ≡ answer (entering_refusal N (held self.now) number) }
     {

@@ -19,9 +19,9 @@ entered_fit b k p e = go (inside 64 k) (is_some (b.properties k)) (unfit b.polic
   where
     go : (r s u m : Bool) → first_of ((not r, NumberOutside) ∷ (s, StandsAlready) ∷ (u, UnfitSet) ∷ (m, SharedContext) ∷ []) ≡ None → not u ≡ true
     go true false false m e = refl
-    go false s u m e = let z : ◌≡◌ {A = ℕ} 0 1 = cc in absurd (omega arith)
-    go true true u m e = let z : ◌≡◌ {A = ℕ} 0 1 = cc in absurd (omega arith)
-    go true false true m e = let z : ◌≡◌ {A = ℕ} 0 1 = cc in absurd (omega arith)
+    go false s u m e = absurd (grind arith)
+    go true true u m e = absurd (grind arith)
+    go true false true m e = absurd (grind arith)
 
 -- an entry replaced by a fit one
 fit_put : (n : ℕ) (f : Entries Property) (k : ℕ) (e : Option Property) → ((j : ℕ) → fits n (f j) ≡ true) → fits n e ≡ true → (j : ℕ) → fits n (put f k e j) ≡ true

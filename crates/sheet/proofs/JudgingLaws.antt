@@ -1,6 +1,6 @@
 -- From a judging of what a sheet holds to one of the book that stands on it.
-use Rattle.std.proofs.Common.{◌≡◌, ℕ, Bool, true, false, cond, not, List, [], ◌∷◌, length, Some, None, Ok, Err, Option, Result, sym, refl, ap, ◌∙◌, subst, ⊎_elim, arith}
-use Rattle.std.proofs.lemmas.Bool.{cases_Bool, or_parts}
+use Rattle.std.proofs.Common.{◌≡◌, ℕ, Bool, true, false, cond, not, List, [], ◌∷◌, length, Some, None, Ok, Err, Option, Result, sym, refl, ap, ◌∙◌, subst, arith}
+use Rattle.std.proofs.lemmas.Bool.{or_parts, true_from_ne_false}
 use Rattle.std.proofs.lemmas.Bool.Decides.{nat_tests}
 use Rattle.access.specs.declared.context_set.ContextSet.{ContextSet}
 use Rattle.access.specs.Contexts.{inside, member, has_above, empty}
@@ -55,9 +55,7 @@ enough n ts ps ss s = let a = s.ticks_fit in let b = s.places_fit in let d = s.s
 
 scarce : (n : ℕ) (ts : List ℕ) (ps : List Place) (ss : List Step) → (Suffices 2 n ts ps ss → ⊥) → short n (length ts) (length ps) (length ss) ≡ true
 scarce n ts ps ss h =
-    ⊎_elim (λ (e : short n (length ts) (length ps) (length ss) ≡ true). e)
-    (λ (e : short n (length ts) (length ps) (length ss) ≡ false). absurd (h (record { ticks_fit = grind (arith, nat_tests); places_fit = grind (arith, nat_tests); steps_fit = grind (arith, nat_tests) })))
-    (cases_Bool (short n (length ts) (length ps) (length ss)))
+    true_from_ne_false (short n (length ts) (length ps) (length ss)) (λ e. h (record { ticks_fit = grind (arith, nat_tests); places_fit = grind (arith, nat_tests); steps_fit = grind (arith, nat_tests) }))
 
 -- the sets of a fit property are of contexts
 is_false : (b : Bool) → not b ≡ true → b ≡ false

@@ -1,6 +1,7 @@
 -- A setting that is noted can be undone, and so can the notes before it.
-use Rattle.std.proofs.Common.{◌≡◌, ℕ, zero, suc, ◌≤◌, true, ◌⊎◌, List, [], ◌∷◌, None, Option, sym, refl, ap, ◌∙◌, subst, ⊎_elim, arith}
+use Rattle.std.proofs.Common.{◌≡◌, ◌==◌, ◌&&◌, ℕ, zero, suc, ◌≤◌, true, List, [], ◌∷◌, None, Option, sym, refl, ap, ◌∙◌, subst, arith}
 use mathlib.Core.Path.{fun_ext}
+use Rattle.std.proofs.lemmas.Bool.{cond_both}
 use Rattle.std.proofs.lemmas.Bool.Decides.{nat_tests}
 use Rattle.access.specs.Policy.{Matrix, Meaning, with_pair, with_written}
 use Rattle.access.specs.Contexts.{both_inside}
@@ -8,26 +9,14 @@ use Rattle.access.specs.Sound.{Sound, some, filled}
 use Rattle.access.specs.Refusals.{when_accepted}
 use Rattle.access.specs.Setting.{setting_refusal, with_set, after_setting}
 use Rattle.access.specs.declared.refusal.Refusal.{Refusal}
-use Rattle.access.proofs.Pairs.{with_same, with_other, pairs_with}
+use Rattle.access.proofs.Pairs.{pairs_with}
 use Rattle.access.proofs.Settings.{accepted, pair_parts}
 use Rattle.sheet.specs.Undo.{undone, undo, Fine, Undoable}
 use Rattle.sheet.specs.declared.note.Note.{Note}
 
 -- the set that stood before, put back, gives what stood before
 put_back_same : (w : Matrix) (s t v : ℕ) → with_pair (with_pair w s t v) s t (w s t) ≡ w
-put_back_same w s t v = fun_ext (λ x. fun_ext (λ y. at x y))
-  where
-    at : (x y : ℕ) → with_pair (with_pair w s t v) s t (w s t) x y ≡ w x y
-    at x y = ⊎_elim (λ p. here p) (λ p. away p) (two x y)
-      where
-        two : (x y : ℕ) → ((x ≡ s) × (y ≡ t)) ⊎ ((x ≡ s → ⊥) ⊎ (y ≡ t → ⊥))
-        two x y = grind (arith, nat_tests)
-
-        here : (x ≡ s) × (y ≡ t) → with_pair (with_pair w s t v) s t (w s t) x y ≡ w x y
-        here p = rw (p.0, p.1) (with_same (with_pair w s t v) s t (w s t))
-
-        away : (x ≡ s → ⊥) ⊎ (y ≡ t → ⊥) → with_pair (with_pair w s t v) s t (w s t) x y ≡ w x y
-        away p = with_other (with_pair w s t v) s t (w s t) x y p ∙ with_other w s t v x y p
+put_back_same w s t v = fun_ext (λ x. fun_ext (λ y. cond_both (x == s && y == t) (w s t) (with_pair w s t v x y) (λ z. z ≡ w x y) (λ here. grind (arith, nat_tests)) (λ away. rw away refl)))
 
 -- after a setting that was accepted, undoing its note gives what stood before
 module _ (m : Meaning) (s t ops : ℕ) where

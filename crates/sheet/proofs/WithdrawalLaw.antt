@@ -44,13 +44,7 @@ steps w b (q ∷ qs) u k = let p = and_parts (undeciding q) (all_undeciding qs) 
 
 -- withdrawing puts the copy back
 end : (w : Matrix) (b : Book) → Copies w b.change → (refusal b Withdraw ≡ None) × ((s t : ℕ) → (fed b Withdraw).policy.written s t ≡ w s t)
-end w b k = go b.change k
-  where
-    go : (c : Option Opened) → Copies w c →
-        let x : Book = record { policy = b.policy; settings = b.settings; grants = b.grants; properties = b.properties; change = c } in
-        (refusal x Withdraw ≡ None) × ((s t : ℕ) → (fed x Withdraw).policy.written s t ≡ w s t)
-    go None k = let e = k.is in let z : ◌≡◌ {A = ℕ} 0 1 = cc in absurd (omega arith)
-    go (Some o) k = (refl, λ s t. let e = k.is in let h = k.copies in let f : o.copy ≡ w = cc in ap (λ (v : Matrix). v s t) f)
+end w b k = rw k.is (refl, λ s t. ap (λ (v : Matrix). v s t) k.copies)
 
 -- opening copies the written sets
 at_opening : (b : Book) → refusal b Open ≡ None → Copies b.policy.written (fed b Open).change

@@ -25,14 +25,14 @@ fn is_unfit_second(contexts: u16, template: Template, set: ContextSet) -> bool
 {
     match template {
         Template::Domain => !set.is_empty(),
-        Template::Integrity | Template::Confidentiality | Template::Consistency => is_unfit(
-            contexts, set,
-        ),
+        Template::Integrity | Template::Confidentiality | Template::Consistency => {
+            is_unfit(contexts, set)
+        }
     }
 }
 
 impl<P: Policy> Sheet<P> {
-    /// Whether a grant can be entered.
+    /// Checks that a grant can be entered.
     fn check_grant(&self, number: u16, grant: Grant) -> Result<(), Refusal>
         ensures { result ≡ answer (refusal (shown P.Policy.meaning self.now) (EnterGrant number grant)) }
     {
@@ -61,7 +61,7 @@ impl<P: Policy> Sheet<P> {
         self.grants.strike(number)
     }
 
-    /// Whether a property can be entered.
+    /// Checks that a property can be entered.
     fn check_property(&self, number: u16, property: Property) -> Result<(), Refusal>
         ensures { result ≡ answer (refusal (shown P.Policy.meaning self.now) (EnterProperty number property)) }
     {
