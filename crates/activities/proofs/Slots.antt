@@ -1,6 +1,6 @@
 -- Slots are apart, and writing one leaves the others.
-use Rattle.std.proofs.Common.{◌≡◌, ℕ, suc, ◌+◌, ◌-◌, ◌<◌, ◌≤◌, Bool, true, false, cond, ◌≢◌, List, length, get_or, set, sym, ap, ◌∙◌, subst, ⊎_elim, arith, get_or-set_other, get_or-set_same}
-use Rattle.std.proofs.lemmas.Bool.{cases_eq, le-leb, lt-leb}
+use Rattle.std.proofs.Common.{◌≡◌, ℕ, suc, ◌+◌, ◌-◌, ◌<◌, ◌≤◌, Bool, true, false, ◌≢◌, List, length, get_or, set, sym, ◌∙◌, subst, ⊎_elim, arith, get_or-set_other, get_or-set_same}
+use Rattle.std.proofs.lemmas.Bool.{cases_eq}
 use Rattle.std.proofs.lemmas.Bool.Decides.{nat_tests}
 use Rattle.access.specs.Policy.{Meaning}
 use Rattle.verdicts.specs.Runs.{Grants}
@@ -10,10 +10,10 @@ use Rattle.activities.specs.Nodes.{move_of, slot}
 use Rattle.activities.specs.Traced.{blank, Shows, ShownFrom, SameFrom}
 
 pub slot_back : (t k d : ℕ) → t ≤ d → slot true t k d ≡ t + (k - suc d)
-slot_back t k d h = ap (λ b. cond b (t + (k - suc d)) d) (le-leb t d h)
+slot_back t k d h = grind (arith, nat_tests)
 
 pub slot_front : (t k d : ℕ) → d < t → slot true t k d ≡ d
-slot_front t k d h = ap (λ b. cond b (t + (k - suc d)) d) (lt-leb t d h)
+slot_front t k d h = grind (arith, nat_tests)
 
 pub slot_below : (back : Bool) (t k d : ℕ) → t ≤ k → d < k → slot back t k d < k
 slot_below false t k d h b = b
