@@ -42,13 +42,9 @@ module _ (m : Meaning) (gs : Grants) (l : Sound m) where
       ⊎_elim (λ w. does_inside w r.can) (λ w. let p = does_inside w r.can in (p.2, p.3, p.0, p.1)) r.makes
 
   pub joined_inside : (b c : ℕ) (v : Move) → Joins b c v → CanMake m gs v → Two m.contexts b c
-  joined_inside b c v j h =
-      ⊎_elim
-      (λ e. transition_inside b c (subst (CanMake m gs) e h))
-      (⊎_elim
-      (λ e. transfer_inside b c (subst (CanMake m gs) e h))
-      (λ e. let p = transfer_inside c b (subst (CanMake m gs) e h) in (p.2, p.3, p.0, p.1)))
-      j
+  joined_inside b c v (inl e) h = transition_inside b c (subst (CanMake m gs) e h)
+  joined_inside b c v (inr (inl e)) h = transfer_inside b c (subst (CanMake m gs) e h)
+  joined_inside b c v (inr (inr e)) h = let p = transfer_inside c b (subst (CanMake m gs) e h) in (p.2, p.3, p.0, p.1)
 
   -- ---- activities of a kind that are realised, as walks
 

@@ -5,5 +5,4 @@ pub mod Tables
 pub mod Slots
 pub mod Rests
 pub mod Tracing
-pub mod Shared
 pub mod Properties

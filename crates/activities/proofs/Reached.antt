@@ -1,5 +1,5 @@
 -- A search that follows every edge from the sources reaches the end of each activity that is realised.
-use Rattle.std.proofs.Common.{◌≡◌, ℕ, zero, suc, ◌+◌, ◌-◌, ◌*◌, ◌%◌, ◌<◌, ◌≤◌, Bool, true, T, eqb, leb, List, length, sym, ap, ◌∙◌, subst, subst₂, mul_comm, arith, leb→le}
+use Rattle.std.proofs.Common.{◌≡◌, ℕ, zero, suc, ◌+◌, ◌-◌, ◌*◌, ◌%◌, ◌<◌, ◌≤◌, Bool, true, T, eqb, leb, List, length, sym, subst, subst₂, mul_comm, arith, leb→le}
 use Rattle.std.proofs.lemmas.Nat.{div_below, div-mul-add, mod-mul-add, mul-add-lt}
 use Rattle.std.proofs.lemmas.Bool.{and_from, and_parts, le-leb, leb-true, eq-eqb}
 use Rattle.access.specs.Contexts.{inside}
@@ -68,10 +68,7 @@ module _ (m : Meaning) (gs : Grants) (l : Sound m) {kind : Search} {back : Bool}
     spread : (k p b q c : ℕ) → R k p b → p ≤ q → q < kind.phases → T (makeable m gs (kind.move q b c)) → R (suc k) q c
     spread k p b q c r le f v =
         let e = joined_inside m gs l b c (kind.move q b c) (laws.joins q b c) v in
-        let is : move_of kind n (node n p b) (node n q c) ≡ kind.move q b c =
-        ap (λ y. kind.move y (context n (node n p b)) (context n (node n q c))) (phase_node n q c e.2 e.3)
-        ∙ ap (λ y. kind.move q y (context n (node n q c))) (context_node n p b r.0 r.1)
-        ∙ ap (λ y. kind.move q b y) (context_node n q c e.2 e.3) in (
+        let is : move_of kind n (node n p b) (node n q c) ≡ kind.move q b c = cc (phase_node n q c e.2 e.3, context_node n p b r.0 r.1, context_node n q c e.2 e.3) in (
           e.2,
           e.3,
           f,

@@ -1,6 +1,7 @@
 -- Slots are apart, and writing one leaves the others.
-use Rattle.std.proofs.Common.{◌≡◌, ℕ, suc, ◌+◌, ◌-◌, ◌<◌, ◌≤◌, Bool, true, false, cond, ◌≢◌, List, length, get_or, set, sym, ap, ◌∙◌, subst, ⊎_elim, arith, get_or-set_other, get_or-set_same}
-use Rattle.std.proofs.lemmas.Bool.{cases_eq, cases_lt, le-leb, lt-leb}
+use Rattle.std.proofs.Common.{◌≡◌, ℕ, suc, ◌+◌, ◌-◌, ◌<◌, ◌≤◌, Bool, true, false, ◌≢◌, List, length, get_or, set, sym, ◌∙◌, subst, ⊎_elim, arith, get_or-set_other, get_or-set_same}
+use Rattle.std.proofs.lemmas.Bool.{cases_eq}
+use Rattle.std.proofs.lemmas.Bool.Decides.{nat_tests}
 use Rattle.access.specs.Policy.{Meaning}
 use Rattle.verdicts.specs.Runs.{Grants}
 use Rattle.verdicts.specs.Searches.{Search}
@@ -9,25 +10,18 @@ use Rattle.activities.specs.Nodes.{move_of, slot}
 use Rattle.activities.specs.Traced.{blank, Shows, ShownFrom, SameFrom}
 
 pub slot_back : (t k d : ℕ) → t ≤ d → slot true t k d ≡ t + (k - suc d)
-slot_back t k d h = ap (λ b. cond b (t + (k - suc d)) d) (le-leb t d h)
+slot_back t k d h = grind (arith, nat_tests)
 
 pub slot_front : (t k d : ℕ) → d < t → slot true t k d ≡ d
-slot_front t k d h = ap (λ b. cond b (t + (k - suc d)) d) (lt-leb t d h)
+slot_front t k d h = grind (arith, nat_tests)
 
 pub slot_below : (back : Bool) (t k d : ℕ) → t ≤ k → d < k → slot back t k d < k
 slot_below false t k d h b = b
-slot_below true t k d h b = ⊎_elim (λ l. omega (arith, slot_front t k d l)) (λ l. omega (arith, slot_back t k d l)) (cases_lt d t)
+slot_below true t k d h b = grind (arith, nat_tests)
 
 slot_apart : (back : Bool) (t k d e : ℕ) → t ≤ k → d < e → e < k → slot back t k e ≢ slot back t k d
 slot_apart false t k d e h a b z = omega arith
-slot_apart true t k d e h a b z =
-    ⊎_elim
-    (λ l. ⊎_elim
-    (λ r. omega (arith, slot_front t k d l, slot_front t k e r))
-    (λ r. omega (arith, slot_front t k d l, slot_back t k e r))
-    (cases_lt e t))
-    (λ l. omega (arith, slot_back t k d l, slot_back t k e (omega arith)))
-    (cases_lt d t)
+slot_apart true t k d e h a b z = grind (arith, nat_tests)
 
 -- one more step is written
 module _ (kind : Search) (m : Meaning) (gs : Grants) (back : Bool) (way : ℕ → ℕ) (t k left : ℕ) (ss : List Step) (h : t ≤ k) (b : left < k) (f : k ≤ length ss) (s : Step) where

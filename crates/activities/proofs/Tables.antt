@@ -1,6 +1,7 @@
 -- Lists given by a function of the place.
-use Rattle.std.proofs.Common.{◌≡◌, ℕ, zero, suc, ◌+◌, ◌-◌, ◌<◌, ◌≤◌, List, [], ◌∷◌, ◌++◌, map, reverse, length, get_or, take, sym, refl, ap, ◌∙◌, subst, ap₂, arith}
-use mathlib.Core.List.{reverse-cons}
+use Rattle.std.proofs.Common.{◌≡◌, ℕ, zero, suc, ◌+◌, ◌-◌, ◌<◌, ◌≤◌, List, [], ◌∷◌, ◌++◌, map, reverse, length, get_or, take, sym, refl, ap, ◌∙◌, subst, arith}
+use lib.ListN.{length-reverse}
+use Rattle.std.proofs.lemmas.List.{ext_get_or, get_or-reverse}
 use Rattle.verdicts.specs.Activities.{Move, Chain, same, next}
 use Rattle.verdicts.specs.Verdicts.{Pairwise, none, also}
 
@@ -12,23 +13,18 @@ pub length_tab : {X : Type 0} (f : ℕ → X) (k : ℕ) → length (tab f k) ≡
 length_tab f zero = refl
 length_tab f (suc k) = ap suc (length_tab (λ j. f (suc j)) k)
 
-tab_same : {X : Type 0} (f g : ℕ → X) (k : ℕ) → ((j : ℕ) → j < k → f j ≡ g j) → tab f k ≡ tab g k
-tab_same f g zero h = refl
-tab_same f g (suc k) h = ap₂ ◌∷◌ (h 0 (omega arith)) (tab_same (λ j. f (suc j)) (λ j. g (suc j)) k (λ j l. h (suc j) (omega arith)))
-
-tab_more : {X : Type 0} (f : ℕ → X) (k : ℕ) → tab f (suc k) ≡ tab f k ++ (f k ∷ [])
-tab_more f zero = refl
-tab_more f (suc k) = ap (λ xs. f 0 ∷ xs) (tab_more (λ j. f (suc j)) k)
+get_or_tab : {X : Type 0} (f : ℕ → X) (k i : ℕ) (d : X) → i < k → get_or (tab f k) i d ≡ f i
+get_or_tab f zero i d h = absurd (omega arith)
+get_or_tab f (suc k) zero d h = refl
+get_or_tab f (suc k) (suc i) d h = get_or_tab (λ j. f (suc j)) k i d (omega arith)
 
 pub reverse_tab : {X : Type 0} (f : ℕ → X) (k : ℕ) → reverse (tab f k) ≡ tab (λ j. f (k - suc j)) k
-reverse_tab f zero = refl
-reverse_tab f (suc k) =
-    let z : suc k - suc k ≡ 0 = omega arith in
-    reverse-cons (f 0) (tab (λ j. f (suc j)) k)
-    ∙ ap₂ (λ xs x. xs ++ (x ∷ []))
-    (reverse_tab (λ j. f (suc j)) k ∙ tab_same (λ j. f (suc (k - suc j))) (λ j. f (suc k - suc j)) k (λ j l. let e : suc (k - suc j) ≡ suc k - suc j = omega arith in ap f e))
-    (ap f (sym z))
-    ∙ sym (tab_more (λ j. f (suc k - suc j)) k)
+reverse_tab f k =
+    let n = length_tab f k in
+    ext_get_or (f 0) (reverse (tab f k)) (tab (λ j. f (k - suc j)) k) (length-reverse (tab f k) ∙ n ∙ sym (length_tab (λ j. f (k - suc j)) k)) (λ i l.
+    let b : i < k = omega (arith, length-reverse (tab f k), n) in
+    let e : length (tab f k) - 1 - i ≡ k - suc i = omega (arith, n) in
+    get_or-reverse (tab f k) i (f 0) (omega (arith, n)) ∙ ap (λ j. get_or (tab f k) j (f 0)) e ∙ get_or_tab f k (k - suc i) (f 0) (omega arith) ∙ sym (get_or_tab (λ j. f (k - suc j)) k i (f 0) b))
 
 pub chain_tab : (move : ℕ → ℕ → Move) (c : ℕ → ℕ) (k : ℕ) → Chain move (c 0) (c k) (tab (λ j. move (c j) (c (suc j))) k)
 chain_tab move c zero = same

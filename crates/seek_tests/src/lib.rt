@@ -13,6 +13,7 @@ mod tests {
     use activities::pull::Pull;
     use activities::push::Push;
     use moves::grant::Grant;
+    use moves::regime::Regime;
     use moves::step::Step;
     use record_table::table::RecordTable;
     use search::Place;
@@ -68,8 +69,10 @@ mod tests {
             return Err(Fail::new("the detour is not accepted"));
         };
         let found = seek::<Push, RecordTable>(
-            &table,
-            &NO_GRANT,
+            &Regime {
+                policy: &table,
+                grants: &NO_GRANT,
+            },
             one(1),
             one(4),
             &mut ticks,
@@ -101,8 +104,10 @@ mod tests {
         );
         assert!(rt; table.set(3, 2, only(Operation::Append)).is_ok());
         let found = seek::<Flow, RecordTable>(
-            &table,
-            &NO_GRANT,
+            &Regime {
+                policy: &table,
+                grants: &NO_GRANT,
+            },
             one(1),
             one(3),
             &mut ticks,
@@ -130,8 +135,10 @@ mod tests {
         grants[4] = Some(grant);
         grants[30] = Some(grant);
         let found = seek::<Push, RecordTable>(
-            &table,
-            &grants,
+            &Regime {
+                policy: &table,
+                grants: &grants,
+            },
             one(1),
             one(2),
             &mut ticks,
@@ -149,8 +156,10 @@ mod tests {
         let mut steps = [STEP; 2];
         let table = RecordTable::new(2);
         let found = seek::<Pull, RecordTable>(
-            &table,
-            &NO_GRANT,
+            &Regime {
+                policy: &table,
+                grants: &NO_GRANT,
+            },
             one(1),
             one(2),
             &mut ticks,

@@ -15,6 +15,7 @@ use layers::labels::Labels;
 use layers::level::LevelLayer;
 use layers::owner::OwnerLayer;
 use moves::grant::Grant;
+use moves::regime::Regime;
 use moves::step::Step;
 use record_table::table::RecordTable;
 use search::Place;
@@ -150,8 +151,7 @@ fn print_found(
 /// Seeks a shortest activity of a kind from the keypad to the opening, and prints it.
 fn ask<A: Activity, P: Policy>(
     rt: &impl Print,
-    controller: &P,
-    grants: &[Option<Grant>; 32],
+    regime: &Regime<'_, P>,
     question: &str,
 ) -> io::Result<()> {
     println!(rt; "  {question}")?;
@@ -160,33 +160,20 @@ fn ask<A: Activity, P: Policy>(
     let mut steps = [NO_STEP; 5];
     let keypad = ContextSet::none().with(KEYPAD);
     let opening = ContextSet::none().with(OPENING);
-    let found = seek::<A, P>(
-        controller,
-        grants,
-        keypad,
-        opening,
-        &mut ticks,
-        &mut places,
-        &mut steps,
-    );
+    let found = seek::<A, P>(regime, keypad, opening, &mut ticks, &mut places, &mut steps);
     print_found(rt, found, &steps)
 }
 
 fn ask_both<P: Policy>(
     rt: &impl Print,
-    controller: &P,
+    policy: &P,
     grants: &[Option<Grant>; 32],
 ) -> io::Result<()> {
-    ask::<Push, P>(
-        rt,
-        controller,
-        grants,
-        "can the keypad get something to the opening?",
-    )?;
+    let regime = Regime { policy, grants };
+    ask::<Push, P>(rt, &regime, "can the keypad get something to the opening?")?;
     ask::<Pull, P>(
         rt,
-        controller,
-        grants,
+        &regime,
         "can the keypad get something from the opening?",
     )
 }
