@@ -43,11 +43,13 @@ mod tests {
         ContextSet::none().with(context)
     }
 
-    fn is_step(step: Step, subject: u16, operation: Operation, target: u16, origin: u8) -> bool {
-        step.subject == subject
-            && step.target == target
-            && step.operation == operation
-            && step.origin == origin
+    fn step(subject: u16, operation: Operation, target: u16, origin: u8) -> Step {
+        Step {
+            subject,
+            target,
+            operation,
+            origin,
+        }
     }
 
     // Context 1 writes 2 and becomes 3, 3 becomes 2, 2 becomes 4.
@@ -80,13 +82,10 @@ mod tests {
             &mut steps,
         );
         assert!(rt; matches!(found, Ok(Some(3))));
-        assert!(rt; is_step(steps[0], 1, Operation::Become, 3, 0));
-        assert!(rt; is_step(steps[1], 3, Operation::Become, 2, 0));
-        assert!(rt; is_step(steps[2], 2, Operation::Become, 4, 0));
-        assert!(rt;
-            is_step(steps[3], 0, Operation::Lock, 0, 9),
-            "behind the steps all is as before"
-        );
+        assert_eq!(rt; steps[0], step(1, Operation::Become, 3, 0));
+        assert_eq!(rt; steps[1], step(3, Operation::Become, 2, 0));
+        assert_eq!(rt; steps[2], step(2, Operation::Become, 4, 0));
+        assert_eq!(rt; steps[3], STEP, "behind the steps all is as before");
         assert!(rt; ticks[0] == 0 && ticks[7] == 0);
         Ok(())
     }
@@ -115,8 +114,8 @@ mod tests {
             &mut steps,
         );
         assert!(rt; matches!(found, Ok(Some(2))));
-        assert!(rt; is_step(steps[0], 3, Operation::Append, 2, 0));
-        assert!(rt; is_step(steps[1], 1, Operation::Read, 2, 0));
+        assert_eq!(rt; steps[0], step(3, Operation::Append, 2, 0));
+        assert_eq!(rt; steps[1], step(1, Operation::Read, 2, 0));
     }
 
     #[test]
@@ -146,7 +145,7 @@ mod tests {
             &mut steps,
         );
         assert!(rt; matches!(found, Ok(Some(1))));
-        assert!(rt; is_step(steps[0], 1, Operation::Signal, 2, 5));
+        assert_eq!(rt; steps[0], step(1, Operation::Signal, 2, 5));
     }
 
     #[test]

@@ -16,9 +16,9 @@ mod tests {
     // Whether all settings of the subjects 1 to 4 on all 256 targets are accepted: 1,024 pairs.
     fn set_all(table: &mut RecordTable, operations: OperationSet) -> bool {
         let mut accepted = true;
-        for s in 0..4u16 {
-            for t in 0..256u16 {
-                if table.set(s + 1, t + 1, operations).is_err() {
+        for s in 1..=4 {
+            for t in 1..=256 {
+                if table.set(s, t, operations).is_err() {
                     accepted = false;
                 }
             }

@@ -4,6 +4,7 @@
 #![tactic(auto)]
 
 use access::context_set::ContextSet;
+use access::numbers::index_in;
 use access::operation::Operation;
 use access::operation_set::OperationSet;
 use access::policy::Policy;
@@ -69,10 +70,7 @@ fn lay_out(levels: Labels, owners: Labels) -> Result<Pile, Refusal> {
 }
 
 fn name(context: u16) -> &'static str {
-    if context == 0 || context as usize > NAMES.len() {
-        return "nobody";
-    }
-    NAMES[context as usize - 1]
+    index_in(NAMES.len(), context).map_or("nobody", |index| NAMES[index])
 }
 
 /// Prints the operations that a policy allows on one pair: those that are both written and permitted.
@@ -80,20 +78,18 @@ fn print_pair<P: Policy>(rt: &impl Print, policy: &P, subject: u16, target: u16)
     let allowed = policy
         .written(subject, target)
         .and(policy.permitted(subject, target));
-    for number in 0..12u8 {
-        if let Ok(operation) = Operation::try_from(number) {
-            if allowed.has(operation) {
-                println!(rt; "  {} may {operation} {}", name(subject), name(target))?;
-            }
+    for operation in (0..12).filter_map(|number| Operation::try_from(number).ok()) {
+        if allowed.has(operation) {
+            println!(rt; "  {} may {operation} {}", name(subject), name(target))?;
         }
     }
     Ok(())
 }
 
 fn print_allowed<P: Policy>(rt: &impl Print, policy: &P) -> io::Result<()> {
-    for s in 0..5u16 {
-        for t in 0..5u16 {
-            print_pair(rt, policy, s + 1, t + 1)?;
+    for s in 1..=5 {
+        for t in 1..=5 {
+            print_pair(rt, policy, s, t)?;
         }
     }
     Ok(())
