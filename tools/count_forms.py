@@ -16,11 +16,11 @@ WORDS = set("let mut if else match for in while return self Self true false fn p
 LINES = {
     "1 own option or result, flag, number for a kind": (
         r"enum Verdict|: bool,$|Option<Refusal>|Err\(_\) =>|Err\(why\) => Err|None => (0|\{\})|Ok\(found\) => match"
-        r"|^\s*(pub(\(crate\))? )?(origin: u8|parent: u16|next: u16),|_stand\(\) -> u8"
+        r"|^\s*pub(\(crate\))? (origin: u8|parent: u16|next: u16),|_stand\(\) -> u8"
     ),
-    "3 index counted by hand": r"\bwhile .*[<>]|\bwhile let Some\(\w+\) = \w+(\.\w+)*\.get\(|\bfor \w+ in 0\.\.",
+    "3 index counted by hand": r"\bwhile .*[<>]|\bwhile let Some\(\w+\) = \w+(\.\w+)*\.get\(|\bfor [a-z]\w* in 0\.\.",
     "4 comparison, conversion or printing by hand": (
-        r"fn (number|numbered|name|is_step|is_full)\b|impl.* (Clone|Copy|PartialEq|Debug|Drop) for|\.number\(\)"
+        r"fn (number|numbered|name|is_step)\b|fn is_full\(answer|impl.* (Clone|Copy|PartialEq|Debug|Drop) for|\.number\(\)"
     ),
     "6 buffer with a length, arena, index by hand": (
         r"^\s*(pub(\(crate\))? )?(len|count): usize,|(heads|slots|list|records): (\[|Records)"
