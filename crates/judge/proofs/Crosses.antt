@@ -1,7 +1,7 @@
 -- Domains: a step across the edge, or none.
-use Rattle.std.proofs.Common.{◌≡◌, ℕ, ◌+◌, ◌≤◌, Bool, T, List, [], ◌∷◌, length, set, sym, refl, subst, subst₂, ⊎_elim, arith}
+use Rattle.std.proofs.Common.{ℕ, ◌≤◌, Bool, T, List, [], ◌∷◌, length, set, Some, None, Option, MatchOption, refl, subst, subst₂, ⊎_elim, arith}
 use lib.Bits.{bit_and, bit_or}
-use Rattle.std.proofs.lemmas.Bool.{cases_eq, cases_Bool}
+use Rattle.std.proofs.lemmas.Bool.{cases_Bool}
 use Rattle.access.specs.Operations.{has}
 use Rattle.access.specs.Contexts.{both_inside}
 use Rattle.access.specs.Policy.{Meaning, Interaction}
@@ -23,9 +23,10 @@ use Rattle.judge.specs.Crossings.{Across, NoneAcross}
 use Rattle.judge.specs.Judged.{Tells}
 use Rattle.judge.specs.declared.verdict.Verdict.TheVariants.{Broken}
 
--- what holds up to k, and of the next, holds up to the next
-pub scan_more : (P : ℕ → Type 0) (k : ℕ) → ((t : ℕ) → 1 ≤ t → t ≤ k → P t) → P (k + 1) → (t : ℕ) → 1 ≤ t → t ≤ k + 1 → P t
-scan_more P k h e t a b = ⊎_elim (λ (z : t ≡ k + 1). subst P (sym z) e) (λ (z : t ≡ k + 1 → ⊥). h t a (omega arith)) (cases_eq t (k + 1))
+-- what is told of an answer, from what is told of it otherwise
+pub retold : {X : Type 0} (r : Option X) {Q Q' : Type 0} {P P' : X → Type 0} → (Q → Q') → ((x : X) → P x → P' x) → MatchOption r Q P → MatchOption r Q' P'
+retold None q p h = q h
+retold (Some x) q p h = p x h
 
 module _ (m : Meaning) (gs : Grants) (l : Sound m) (A : ℕ → Bool) where
   can_inside : (i : Interaction) → Can m gs i → (1 ≤ i.subject) × (i.subject ≤ m.contexts) × (1 ≤ i.target) × (i.target ≤ m.contexts)

@@ -1,5 +1,5 @@
 //! Domains: a look at each pair.
-ghost use Rattle.std.specs.Prelude.{◌≡◌, ◌≤◌, length};
+ghost use Rattle.std.specs.Prelude.{◌≡◌, ℕ, ◌≤◌, length, MatchOption, Some, None};
 ghost use Rattle.access.specs.Contexts.{member};
 ghost use Rattle.verdicts.specs.Activities.{domain, apart as apart_in, Forbids};
 ghost use Rattle.moves.specs.Regimes.{meaning_of, grants_of};
@@ -31,28 +31,31 @@ fn crossing_at<P: Policy>(regime: &Regime<'_, P>, set: ContextSet, s: u16, t: u1
     }
 }
 
-/// The first such step by which `s` does something.
-fn crossing_from<P: Policy>(regime: &Regime<'_, P>, set: ContextSet, s: u16) -> Option<Step>
-    ensures { AcrossFrom (meaning_of P.Policy.meaning regime.now) (grants_of regime.now) (member set) s (meaning_of P.Policy.meaning regime.now).contexts result }
+/// The first answer that is a step, of those at the contexts 1 to n.
+fn first_step<F: Fn(u16) -> Option<Step>>(contexts: u16, look: F) -> Option<Step>
+    requires { F.IsAlwaysCallable look }
+    ensures { MatchOption result ((c : ℕ) → 1 ≤ c → c ≤ contexts → F.post look c None) (λ step. (c : ℕ) × F.post look c (Some step)) }
 {
-    for t in 1..=regime.policy.contexts() {
-        if let Some(step) = crossing_at(regime, set, s, t) {
+    for context in 1..=contexts {
+        if let Some(step) = look(context) {
             return Some(step);
         }
     }
     None
 }
 
+/// The first such step by which `s` does something.
+fn crossing_from<P: Policy>(regime: &Regime<'_, P>, set: ContextSet, s: u16) -> Option<Step>
+    ensures { AcrossFrom (meaning_of P.Policy.meaning regime.now) (grants_of regime.now) (member set) s (meaning_of P.Policy.meaning regime.now).contexts result }
+{
+    first_step(regime.policy.contexts(), |t| crossing_at(regime, set, s, t))
+}
+
 /// The first such step.
 fn crossing<P: Policy>(regime: &Regime<'_, P>, set: ContextSet) -> Option<Step>
     ensures { AcrossAll (meaning_of P.Policy.meaning regime.now) (grants_of regime.now) (member set) (meaning_of P.Policy.meaning regime.now).contexts result }
 {
-    for s in 1..=regime.policy.contexts() {
-        if let Some(step) = crossing_from(regime, set, s) {
-            return Some(step);
-        }
-    }
-    None
+    first_step(regime.policy.contexts(), |s| crossing_from(regime, set, s))
 }
 
 /// Judges a domain.
