@@ -54,6 +54,7 @@ impl Operation {
     }
 
     /// The name by which policy texts and reports call the operation.
+    // Beside `Display`, for who compares names: a formatter only writes them.
     pub fn name(self) -> &'static str
         ensures { result.now ≡ name_of self }
     {

@@ -10,6 +10,17 @@ pub struct OperationSet {
     pub bits: u16,
 }
 
+/// The set of one operation.
+impl From<Operation> for OperationSet {
+    ghost from_gives = { λ operation set. set.bits ≡ one (number_of operation) };
+
+    fn from(operation: Operation) -> OperationSet {
+        OperationSet {
+            bits: 1 << u8::from(operation),
+        }
+    }
+}
+
 impl OperationSet {
     pub fn none() -> OperationSet
         ensures { result.bits ≡ 0 }
@@ -49,14 +60,14 @@ impl OperationSet {
     pub fn execute() -> OperationSet
         ensures { result.bits ≡ set_of execute_op 12 }
     {
-        OperationSet::none().with(Operation::Execute)
+        OperationSet::from(Operation::Execute)
     }
 
     /// The operation by which a program takes on another context.
     pub fn transition() -> OperationSet
         ensures { result.bits ≡ set_of become_op 12 }
     {
-        OperationSet::none().with(Operation::Become)
+        OperationSet::from(Operation::Become)
     }
 
     pub fn has(self, operation: Operation) -> bool

@@ -21,6 +21,7 @@ pub trait Policy {
     fn capacity(&self) -> u32
         ensures { result ≡ (meaning self.now).capacity };
 
+    // A pair is two numbers here and in all that asks a policy: of a struct each call would build one and take it apart.
     fn written(&self, subject: u16, target: u16) -> OperationSet
         ensures { result.bits ≡ (meaning self.now).written subject target };
 

@@ -90,6 +90,7 @@ impl<P: Policy> Flows<'_, P> {
     }
 
     /// In how many steps a flow leads from `a` to one of them.
+    // Here and below, that `a` is a context and the memory suffices stands at each function: both speak of this policy's contexts.
     fn measure_from(&self, a: u16, ticks: &mut [u8], places: &mut [Place]) -> Option<usize>
         requires first { 1 ≤ a }
         requires last { a ≤ (meaning_of P.Policy.meaning self.now.regime.now).contexts }

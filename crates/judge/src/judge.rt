@@ -33,6 +33,7 @@ fn decide<'a, P: Policy>(
 {
     let from = property.first;
     let to = property.second;
+    // A match on a closed list: as values, the four ways would need one signature, and they differ in what they take.
     match property.template {
         Template::Integrity => { by_search::<Push, P>(regime, from, to, ticks, places, steps) }
         Template::Confidentiality => {
@@ -48,6 +49,7 @@ fn decide<'a, P: Policy>(
 
 /// Judges a property under a policy with standing grants: guaranteed, or broken in so many steps, which then stand in front
 /// of `steps` in working order. Refused where a lent slice is too short; the ticks are handed back all zero in any case.
+// Lent memory as three slices, and so below: of a struct of them each contract would owe that it still lends the same three.
 pub fn judge<'a, P: Policy>(
     regime: &'a Regime<'a, P>,
     property: Property,

@@ -16,6 +16,7 @@ pub struct Layer<P, R> {
 }
 
 impl<P: Policy, R: Rule> Layer<P, R> {
+    // Each constructor of a layer says where its arguments went.
     pub fn over(below: P, rule: R) -> Layer<P, R>
         ensures below { result.below ≡ below }
         ensures rule { result.rule ≡ rule }

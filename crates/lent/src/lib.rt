@@ -103,6 +103,7 @@ impl<'a> Cleared<'a> {
     }
 }
 
+// By hand, since a derived one would hand the bytes back as they are.
 impl Drop for Cleared<'_> {
     fn drop(self)
         ensures { self.exit.0.now ≡ replicate (length self.entry.bytes.now) 0 }

@@ -13,6 +13,7 @@ pub(crate) const UNUSED: u16 = 0;
 pub struct Record {
     pub(crate) target: u16,
     pub(crate) operations: OperationSet,
+    // A number, 0 for none, and so in `heads`: links that point would need a heap, and a table has fixed memory.
     pub(crate) next: u16,
 }
 
@@ -30,6 +31,7 @@ impl Record {
 }
 
 /// The records, and the number of each chain's first one, or 0.
+// Arrays side by side with links by number: a table has fixed memory and no heap.
 #[derive(Clone, Copy, Debug, PartialEq, Eq)]
 pub struct Chains {
     pub(crate) heads: [u16; 257],

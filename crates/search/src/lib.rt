@@ -75,6 +75,7 @@ fn visit_all<G: Graph, F: Fn(u16) -> bool>(
     ensures lent { Lent ticks.old ticks.new places.old places.new }
     ensures stepped { Stepped (G.problem graph.now) ticks.old ticks.new places.old places.new depth (λ v. F.post leads v false → ⊥) result }
 {
+    // Nodes are numbers, and no slice holds them.
     for node in 0..graph.nodes() {
         if !ticks.is_ticked(node as usize)
             && leads(node)
@@ -140,6 +141,7 @@ fn explore<G: Graph>(graph: &G, ticks: &mut Cleared<'_>, places: &mut List<'_, P
     if start(graph, ticks, places) {
         return true;
     }
+    // By index, since the places grow while they are gone over.
     for head in 0..graph.nodes() {
         let Some(from) = places.get(head as usize) else {
             return false;

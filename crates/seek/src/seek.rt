@@ -121,6 +121,7 @@ impl<A: Activity, P: Policy> Chart<'_, A, P> {
 /// `steps`, or `None` where there is no such activity of any length.
 ///
 /// The lent memory comes as three slices: of a struct that holds them, each contract would owe that it still lends the same three.
+// Two sets side by side, from and to, and so in `measure`: a struct of them would only name them once more at each call.
 pub fn seek<'a, A: Activity, P: Policy>(
     regime: &'a Regime<'a, P>,
     from: ContextSet,

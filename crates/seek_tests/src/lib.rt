@@ -35,10 +35,6 @@ mod tests {
         origin: 9,
     };
 
-    fn only(operation: Operation) -> OperationSet {
-        OperationSet::none().with(operation)
-    }
-
     fn one(context: u16) -> ContextSet {
         ContextSet::none().with(context)
     }
@@ -55,10 +51,10 @@ mod tests {
     // Context 1 writes 2 and becomes 3, 3 becomes 2, 2 becomes 4.
     fn detour() -> Result<RecordTable, Refusal> {
         let mut table = RecordTable::new(4);
-        table.set(1, 2, only(Operation::Write))?;
-        table.set(1, 3, only(Operation::Become))?;
-        table.set(3, 2, only(Operation::Become))?;
-        table.set(2, 4, only(Operation::Become))?;
+        table.set(1, 2, OperationSet::from(Operation::Write))?;
+        table.set(1, 3, OperationSet::from(Operation::Become))?;
+        table.set(3, 2, OperationSet::from(Operation::Become))?;
+        table.set(2, 4, OperationSet::from(Operation::Become))?;
         Ok(table)
     }
 
@@ -98,10 +94,18 @@ mod tests {
         let mut table = RecordTable::new(3);
         assert!(rt;
             table
-                .set(1, 2, only(Operation::Read).with(Operation::Stat))
+                .set(
+                    1,
+                    2,
+                    OperationSet::from(Operation::Read).with(Operation::Stat)
+                )
                 .is_ok()
         );
-        assert!(rt; table.set(3, 2, only(Operation::Append)).is_ok());
+        assert!(rt;
+            table
+                .set(3, 2, OperationSet::from(Operation::Append))
+                .is_ok()
+        );
         let found = seek::<Flow, RecordTable>(
             &Regime {
                 policy: &table,
@@ -124,12 +128,12 @@ mod tests {
         let mut places = [PLACE; 4];
         let mut steps = [STEP; 2];
         let mut table = RecordTable::new(2);
-        assert!(rt; table.set(2, 1, only(Operation::Read)).is_ok());
+        assert!(rt; table.set(2, 1, OperationSet::from(Operation::Read)).is_ok());
         let mut grants = NO_GRANT;
         let grant = Grant {
             subjects: one(1),
             targets: one(2),
-            operations: only(Operation::Send).with(Operation::Signal),
+            operations: OperationSet::from(Operation::Send).with(Operation::Signal),
         };
         grants[4] = Some(grant);
         grants[30] = Some(grant);

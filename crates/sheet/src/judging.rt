@@ -17,6 +17,7 @@ use search::Place;
 impl<P: Policy> Sheet<P> {
     /// Judges a property: guaranteed, or broken in so many steps, which then stand in front of `steps` in working order. For n
     /// contexts it takes ticks and places of 2n each, and steps of n. The ticks are handed back all zero in any case.
+    // Three slices, as `judge` takes them.
     pub fn judge(
         &self,
         number: u16,

@@ -53,22 +53,19 @@ const NO_STEP: Step = Step {
 /// Levels over owners over a record table, as every controller has them.
 type Pile = LevelLayer<OwnerLayer<RecordTable>>;
 
-fn only(operation: Operation) -> OperationSet {
-    OperationSet::none().with(operation)
-}
-
 /// The sample controller: the clock updates the opening times, the keypad appends to the log, maintenance reads the log.
 /// Appending is constrained to one owner.
 fn lay_out(levels: Labels, owners: Labels) -> Result<Pile, Refusal> {
     let table = RecordTable::new(NAMES.len() as u16);
-    let owned = OwnerLayer::new(table, owners, only(Operation::Append));
+    let owned = OwnerLayer::new(table, owners, OperationSet::from(Operation::Append));
     let mut controller = LevelLayer::new(owned, levels);
-    controller.set(CLOCK, OPENING, only(Operation::Update))?;
-    controller.set(KEYPAD, LOG, only(Operation::Append))?;
-    controller.set(MAINT, LOG, only(Operation::Read))?;
+    controller.set(CLOCK, OPENING, OperationSet::from(Operation::Update))?;
+    controller.set(KEYPAD, LOG, OperationSet::from(Operation::Append))?;
+    controller.set(MAINT, LOG, OperationSet::from(Operation::Read))?;
     Ok(controller)
 }
 
+// A context is a plain number, so it cannot have a `Display` of its own.
 fn name(context: u16) -> &'static str {
     index_in(NAMES.len(), context).map_or("nobody", |index| NAMES[index])
 }
@@ -104,7 +101,7 @@ fn print_answer(rt: &impl Print, call: &str, answer: Result<(), Refusal>) -> io:
 
 /// Settings, accepted and refused.
 fn change<P: Policy>(rt: &impl Print, controller: &mut P) -> io::Result<()> {
-    let given = controller.set(MAINT, OPENING, only(Operation::Write));
+    let given = controller.set(MAINT, OPENING, OperationSet::from(Operation::Write));
     print_answer(rt, "giving maint write on opening", given)?;
     print_allowed(rt, controller)?;
     let emptied = controller.set(MAINT, OPENING, OperationSet::none());
@@ -112,7 +109,7 @@ fn change<P: Policy>(rt: &impl Print, controller: &mut P) -> io::Result<()> {
     print_allowed(rt, controller)?;
     let unknown = controller.set(MAINT, OPENING, OperationSet { bits: 4096 });
     print_answer(rt, "giving maint an operation 12 on opening", unknown)?;
-    let nobody = controller.set(6, OPENING, only(Operation::Write));
+    let nobody = controller.set(6, OPENING, OperationSet::from(Operation::Write));
     print_answer(rt, "giving a context 6 write on opening", nobody)
 }
 
@@ -201,7 +198,7 @@ fn tour(rt: &impl Print) -> io::Result<()> {
             grants[0] = Some(Grant {
                 subjects: ContextSet::none().with(MAINT),
                 targets: ContextSet::none().with(OPENING),
-                operations: only(Operation::Write),
+                operations: OperationSet::from(Operation::Write),
             });
             ask_both(rt, &controller, &grants)
         }
