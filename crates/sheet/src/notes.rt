@@ -51,13 +51,14 @@ impl Notes {
         self.count >= MOST_NOTES
     }
 
-    /// Adds a note.
+    /// Adds a note where there is room.
     pub(crate) fn add(&mut self, note: Note)
-        requires { length self.old < 128 }
-        ensures { self.new ≡ note ∷ self.old }
+        ensures { length self.old < 128 → self.new ≡ note ∷ self.old }
     {
-        self.list[self.count] = note;
-        self.count += 1;
+        if self.count < MOST_NOTES {
+            self.list[self.count] = note;
+            self.count += 1;
+        }
     }
 
     /// Takes the latest note off.
