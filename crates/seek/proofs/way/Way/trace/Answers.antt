@@ -1,0 +1,53 @@
+use Rattle.std.proofs.Common.{length, refl, ap, ◌∙◌, arith}
+use Rattle.std.proofs.lemmas.List.{length-set}
+use Rattle.seek.proofs.Lines.{climb_start}
+use Rattle.seek.proofs.Turns.{next_climb, next_below, joined, trace_again, trace_keeps}
+use Rattle.seek.proofs.Puts.{put-wrote}
+use Rattle.seek.proofs.way.Way.trace.Goals as goal
+
+pub loop-left-init : goal.loop-left-init
+loop-left-init g c =
+    record {
+      climb = climb_start c.args.self.now.places.now c.args.self.now.last c.depth-all.result c.depth-all.ensures;
+      shown = λ d l h. absurd (omega arith);
+      same = λ j l. refl;
+      lender = refl;
+      len = omega (arith, c.reserve.ensures.grown, c.requires.empty);
+      sized = refl;
+    }
+
+pub bounds-self-parent : goal.bounds-self-parent
+bounds-self-parent g c =
+    let h = next_below g.A.Activity.kind g.P.Policy.meaning c.args.self.now.chart.now c.args.self.now.places.now c.args.self.now.last c.args.self.now.found c.loop-left.here c.loop-left.left c.loop-left.invariant.climb c.loop-left-test.true c.from-parent.result c.from-parent.ensures in
+    omega (arith, c.args.self.now.room)
+
+pub step-step-requires : goal.step-step-requires
+step-step-requires g c = joined g.A.Activity.kind g.P.Policy.meaning c.args.self.now.chart.now c.args.self.now.places.now c.args.self.now.last c.args.self.now.found c.loop-left.here c.loop-left.left c.loop-left.invariant.climb c.loop-left-test.true c.from-parent.result c.from-parent.ensures
+
+pub loop-left-preserved : goal.loop-left-preserved
+loop-left-preserved g c =
+    let inv = c.loop-left.invariant in
+    let before = c.loop-left.steps.items.now in
+    let i = c.slot.result in
+    let s = c.step-step.result in
+    let wrote = put-wrote c.put.result i c.loop-left.steps.len before c.put.new.self.items.now s c.put.ensures.put (omega (arith, c.slot.ensures.below, inv.len, c.depth-all.ensures)) in
+    record {
+      climb = next_climb g.A.Activity.kind g.P.Policy.meaning c.args.self.now.chart.now c.args.self.now.places.now c.args.self.now.last c.args.self.now.found c.loop-left.here c.loop-left.left inv.climb c.loop-left-test.true c.from-parent.result c.from-parent.ensures;
+      shown = trace_again g.A.Activity.kind g.P.Policy.meaning c.args.self.now.chart.now c.args.self.now.places.now c.args.self.now.last c.args.self.now.found c.loop-left.here c.loop-left.left inv.climb c.loop-left-test.true c.from-parent.result c.from-parent.ensures
+          _ _ c.turn-turn.ensures.within before (omega (arith, inv.sized, c.reserve.ensures.sized, c.requires.fits)) s inv.shown c.step-step.ensures _ (i, cc, wrote);
+      same = trace_keeps g.A.Activity.kind g.P.Policy.meaning c.args.self.now.chart.now c.args.self.now.places.now c.args.self.now.last c.args.self.now.found c.loop-left.here c.loop-left.left inv.climb c.loop-left-test.true c.from-parent.result c.from-parent.ensures
+          g.A.Activity.BACKWARDS c.turn-turn.result c.turn-turn.ensures.within before (omega (arith, inv.sized, c.reserve.ensures.sized, c.requires.fits)) s _ inv.same _ (i, cc, wrote);
+      lender = c.put.ensures.lender ∙ inv.lender;
+      len = c.put.ensures.len ∙ inv.len;
+      sized = ap length wrote ∙ length-set before i s ∙ inv.sized;
+    }
+
+pub returns : goal.returns
+returns g c =
+    let inv = c.loop-left.invariant in
+    record {
+      lender = inv.lender ∙ c.reserve.ensures.lender;
+      shown = record { turn = c.turn-turn.result; turned = c.turn-turn.ensures; shown = λ d l h. inv.shown d (omega (arith, c.loop-left-test.false)) h };
+      sized = inv.sized ∙ c.reserve.ensures.sized;
+      rest = λ j h. inv.same j h ∙ c.reserve.ensures.rest j (omega (arith, c.reserve.ensures.grown, c.requires.empty, c.depth-all.ensures, h));
+    }
