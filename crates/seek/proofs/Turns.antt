@@ -6,6 +6,7 @@ use Rattle.std.proofs.Props.{props}
 use Rattle.search.specs.Queue.{at, Sound}
 use Rattle.search.specs.declared.Place.{Place}
 use Rattle.access.specs.Contexts.{member}
+use Rattle.access.specs.declared.policy.Policy.{Ghosts as Policy}
 use Rattle.access.specs.Policy.{Meaning}
 use Rattle.access.specs.Sound.{Sound as SoundMeaning}
 use Rattle.verdicts.specs.Runs.{Grants}
@@ -13,24 +14,29 @@ use Rattle.verdicts.specs.Searches.{Search}
 use Rattle.moves.specs.Regimes.{meaning_of, grants_of}
 use Rattle.moves.specs.declared.step.Step.{Step}
 use Rattle.seek.specs.Plan.{line}
-use Rattle.seek.specs.Charts.{problem_of, FoundOn}
-use Rattle.seek.specs.declared.chart.Chart.{Chart}
+use Rattle.seek.specs.Charts.{problem_of}
+use Rattle.seek.specs.declared.way.Way.{Way}
+use Rattle.activities.specs.declared.activity.Activity.{Ghosts as Activity}
 use Rattle.activities.specs.Nodes.{phase, edge, move_of, slot}
 use Rattle.activities.specs.Traced.{Turned, Shows, ShownFrom, SameFrom}
 use Rattle.seek.proofs.Lines.{Climb, back, joins, turned}
 use Rattle.activities.proofs.Slots.{shown_more, same_more}
 
--- from the place `here`, at depth `left`, on the way is in the last phase
-pub record Turning (kind : Search) (n : ℕ) (ps : List Place) (last here left : ℕ) : Type 0 where
-  pub climb : Climb ps last here left
-  pub late : (d : ℕ) → left ≤ d → d < (at ps last).depth → suc (phase n (line ps last (suc d))) ≡ kind.phases
+module _ {X P : Type 0} {A : Activity X} {B : Policy P} (way : Way X P A B) where
+  abbrev kind : Search
+  kind = A.kind
 
-module _ {X P : Type 0} (kind : Search) (meaning : P → Meaning) (chart : Chart X P) (ps : List Place) (last : ℕ) (f : ∥ FoundOn kind meaning chart ps last ∥₁) where
+  abbrev ps : List Place
+  ps = way.places.now
+
+  abbrev last : ℕ
+  last = way.last
+
   abbrev m : Meaning
-  m = meaning_of meaning chart.regime.now
+  m = meaning_of B.meaning way.chart.now.regime.now
 
   abbrev gs : Grants
-  gs = grants_of chart.regime.now
+  gs = grants_of way.chart.now.regime.now
 
   abbrev n : ℕ
   n = m.contexts
@@ -41,10 +47,15 @@ module _ {X P : Type 0} (kind : Search) (meaning : P → Meaning) (chart : Chart
   abbrev Node : ℕ → ℕ
   Node place = (at ps place).node
 
-  sound : (i : ℕ) → i ≤ last → Sound (problem_of kind meaning chart) ps i (at ps i)
-  sound = ∥∥₁_elim f (hlevel props) (λ x. x.sound)
+  sound : (i : ℕ) → i ≤ last → Sound (problem_of kind B.meaning way.chart.now) ps i (at ps i)
+  sound = ∥∥₁_elim way.found (hlevel props) (λ f. f.sound)
 
-  pub turn_again : (here left : ℕ) → Turning kind n ps last here left → 0 < left → phase n (Node here) + 1 ≡ kind.phases → (next : ℕ) → next ≡ (at ps here).parent → Turning kind n ps last next (left - 1)
+  -- from the place `here`, at depth `left`, on the way is in the last phase
+  pub record Turning (here left : ℕ) : Type 0 where
+    pub climb : Climb ps last here left
+    pub late : (d : ℕ) → left ≤ d → d < k → suc (phase n (line ps last (suc d))) ≡ kind.phases
+
+  pub turn_again : (here left : ℕ) → Turning here left → 0 < left → phase n (Node here) + 1 ≡ kind.phases → (next : ℕ) → next ≡ (at ps here).parent → Turning next (left - 1)
   turn_again here left t pos test next e =
       let b = back _ ps last sound t.climb pos in
       record {
@@ -56,10 +67,10 @@ module _ {X P : Type 0} (kind : Search) (meaning : P → Meaning) (chart : Chart
             (cases_eq d (left - 1));
       }
 
-  pub turn_done : SoundMeaning m → (here left : ℕ) → Turning kind n ps last here left → (left ≡ 0) ⊎ (phase n (Node here) + 1 ≡ kind.phases → ⊥) → (turn : ℕ) → turn ≡ left → Turned kind n (line ps last) k turn
+  pub turn_done : SoundMeaning m → (here left : ℕ) → Turning here left → (left ≡ 0) ⊎ (phase n (Node here) + 1 ≡ kind.phases → ⊥) → (turn : ℕ) → turn ≡ left → Turned kind n (line ps last) k turn
   turn_done l here left t stop turn e =
       subst (Turned kind n (line ps last) k) (sym e)
-      (turned kind m gs (member chart.from) (member chart.to) l ps last sound left t.climb.within t.late
+      (turned kind m gs (member way.chart.now.from) (member way.chart.now.to) l ps last sound left t.climb.within t.late
       (⊎_elim inl (λ other. inr (λ q. other (let g : line ps last left ≡ Node here = ap Node (sym t.climb.place) in subst (λ x. phase n x + 1 ≡ kind.phases) g (omega arith)))) stop))
 
   module _ (here left : ℕ) (c : Climb ps last here left) (pos : 0 < left) (next : ℕ) (e : next ≡ (at ps here).parent) where

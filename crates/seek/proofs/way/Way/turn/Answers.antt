@@ -8,14 +8,14 @@ loop-left-init g c = record { climb = climb_start c.args.self.now.places.now c.a
 
 pub loop-left-preserved : goal.loop-left-preserved
 loop-left-preserved g c =
-    turn_again g.A.Activity.kind g.P.Policy.meaning c.args.self.now.chart.now c.args.self.now.places.now c.args.self.now.last c.args.self.now.found c.loop-left.here c.loop-left.left c.loop-left.invariant c.loop-left-test.true (omega (arith, c.if-phase_of-PHASES.false, c.phase_of.ensures, c.PHASES.ensures, g.met.A.Activity.counted))
+    turn_again c.args.self.now c.loop-left.here c.loop-left.left c.loop-left.invariant c.loop-left-test.true (omega (arith, c.if-phase_of-PHASES.false, c.phase_of.ensures, c.PHASES.ensures, g.met.A.Activity.counted))
     c.from-here.result c.from-here.ensures
 
 pub returns-then-phase_of-PHASES : goal.returns-then-phase_of-PHASES
 returns-then-phase_of-PHASES g c =
-    turn_done g.A.Activity.kind g.P.Policy.meaning c.args.self.now.chart.now c.args.self.now.places.now c.args.self.now.last c.args.self.now.found (g.met.P.Policy.sound c.args.self.now.chart.now.regime.now.policy.now) c.loop-left.here c.loop-left.left c.loop-left.invariant
+    turn_done c.args.self.now (g.met.P.Policy.sound c.args.self.now.chart.now.regime.now.policy.now) c.loop-left.here c.loop-left.left c.loop-left.invariant
     (inr (λ e. c.if-phase_of-PHASES.true (omega (arith, e, c.phase_of.ensures, c.PHASES.ensures, g.met.A.Activity.counted)))) _ (omega arith)
 
 pub returns : goal.returns
 returns g c =
-    turn_done g.A.Activity.kind g.P.Policy.meaning c.args.self.now.chart.now c.args.self.now.places.now c.args.self.now.last c.args.self.now.found (g.met.P.Policy.sound c.args.self.now.chart.now.regime.now.policy.now) c.loop-left.here c.loop-left.left c.loop-left.invariant (inl (omega arith)) _ (omega arith)
+    turn_done c.args.self.now (g.met.P.Policy.sound c.args.self.now.chart.now.regime.now.policy.now) c.loop-left.here c.loop-left.left c.loop-left.invariant (inl (omega arith)) _ (omega arith)
