@@ -1,10 +1,8 @@
 //! The way that a search found, and the steps that show it.
 ghost use Rattle.std.specs.Prelude.{◌≡◌, ◌+◌, ◌<◌, ◌≤◌, true, length};
-ghost use Rattle.search.specs.Queue.{at};
 ghost use Rattle.moves.specs.Regimes.{meaning_of, grants_of};
 ghost use Rattle.activities.specs.Nodes.{move_of, slot as slot_of};
-ghost use Rattle.activities.specs.Traced.{Shows, Turned, Traced, SameFrom};
-ghost use Rattle.seek.specs.Plan.{line};
+ghost use Rattle.activities.specs.Traced.{Shows, SameFrom};
 ghost use Rattle.seek.specs.Charts.{problem_of, FoundOn};
 
 use crate::chart::Chart;
@@ -14,6 +12,16 @@ use activities::activity::Activity;
 use lent::List;
 use moves::step::Step;
 use search::Place;
+
+/// A way that a search found on a chart: the parents lead from the place `last` back to a source.
+#[derive(Drop)]
+pub(crate) struct Way<'a, A: Activity, P: Policy> {
+    pub(crate) chart: &'a Chart<'a, A, P>,
+    pub(crate) places: &'a [Place],
+    pub(crate) last: usize,
+    ghost found: { ∥ FoundOn A.Activity.kind P.Policy.meaning chart.now places.now last ∥₁ },
+    ghost room: { last < length places.now },
+}
 
 /// Where the move from depth `left` on is shown, of `all` moves: those from `turn` on are of the last phase, and go in
 /// reverse where information comes back by them.
@@ -58,27 +66,19 @@ impl<A: Activity, P: Policy> Chart<'_, A, P> {
     }
 }
 
-/// A way that a search found on a chart: the parents lead from the place `last` back to a source.
-#[derive(Drop)]
-pub(crate) struct Way<'a, A: Activity, P: Policy> {
-    pub(crate) chart: &'a Chart<'a, A, P>,
-    pub(crate) places: &'a [Place],
-    pub(crate) last: usize,
-    ghost found: { ∥ FoundOn A.Activity.kind P.Policy.meaning chart.now places.now last ∥₁ },
-    ghost room: { last < length places.now },
-}
-
 impl<A: Activity, P: Policy> Way<'_, A, P> {
+    ghost use Rattle.seek.specs.Ways.{depth_of, TurnedOn, TracedOn};
+
     /// How many steps the way has.
     fn depth(&self) -> usize
-        ensures { result ≡ (at self.now.places.now self.now.last).depth }
+        ensures { result ≡ depth_of self.now }
     {
         usize::from(self.places[self.last].depth)
     }
 
     /// The depth from which on the way is in the last phase.
     fn turn(&self) -> usize
-        ensures { Turned A.Activity.kind (meaning_of P.Policy.meaning self.now.chart.now.regime.now).contexts (line self.now.places.now self.now.last) (at self.now.places.now self.now.last).depth result }
+        ensures { TurnedOn self.now result }
     {
         let mut here = self.last;
         for left in (0..self.depth()).rev() {
@@ -93,11 +93,11 @@ impl<A: Activity, P: Policy> Way<'_, A, P> {
     /// Writes the steps into an empty list, in working order.
     fn trace(&self, steps: &mut List<'_, Step>)
         requires empty { steps.old.len ≡ 0 }
-        requires fits { (at self.now.places.now self.now.last).depth ≤ length steps.old.items.now }
+        requires fits { depth_of self.now ≤ length steps.old.items.now }
         ensures lender { steps.new.items.ghost_name ≡ steps.old.items.ghost_name }
-        ensures shown { Traced A.Activity.kind (meaning_of P.Policy.meaning self.now.chart.now.regime.now) (grants_of self.now.chart.now.regime.now) A.Activity.BACKWARDS (line self.now.places.now self.now.last) (at self.now.places.now self.now.last).depth steps.new.items.now }
+        ensures shown { TracedOn self.now A.Activity.BACKWARDS steps.new.items.now }
         ensures sized { length steps.new.items.now ≡ length steps.old.items.now }
-        ensures rest { SameFrom (at self.now.places.now self.now.last).depth steps.old.items.now steps.new.items.now }
+        ensures rest { SameFrom (depth_of self.now) steps.old.items.now steps.new.items.now }
     {
         let turn = self.turn();
         let all = self.depth();
@@ -105,7 +105,9 @@ impl<A: Activity, P: Policy> Way<'_, A, P> {
         let mut here = self.last;
         for left in (0..all).rev() {
             let parent = usize::from(self.places[here].parent);
-            let step = self.chart.step(self.places[parent].node, self.places[here].node);
+            let step = self
+                .chart
+                .step(self.places[parent].node, self.places[here].node);
             let _ = steps.put(slot(A::BACKWARDS, turn, all, left), step);
             here = parent;
         }
@@ -113,10 +115,10 @@ impl<A: Activity, P: Policy> Way<'_, A, P> {
 
     /// Writes the steps in front of the lent ones, and says how many they are.
     pub(crate) fn write(&self, steps: &mut [Step]) -> usize
-        requires fits { (at self.now.places.now self.now.last).depth ≤ length steps.old }
-        ensures all { result ≡ (at self.now.places.now self.now.last).depth }
-        ensures shown { Traced A.Activity.kind (meaning_of P.Policy.meaning self.now.chart.now.regime.now) (grants_of self.now.chart.now.regime.now) A.Activity.BACKWARDS (line self.now.places.now self.now.last) (at self.now.places.now self.now.last).depth steps.new }
-        ensures rest { SameFrom (at self.now.places.now self.now.last).depth steps.old steps.new }
+        requires fits { depth_of self.now ≤ length steps.old }
+        ensures all { result ≡ depth_of self.now }
+        ensures shown { TracedOn self.now A.Activity.BACKWARDS steps.new }
+        ensures rest { SameFrom (depth_of self.now) steps.old steps.new }
     {
         let mut shown = List::over(steps);
         self.trace(&mut shown);
