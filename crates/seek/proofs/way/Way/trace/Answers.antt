@@ -1,20 +1,8 @@
-use Rattle.std.proofs.Common.{length, refl, ap, ◌∙◌, arith}
+use Rattle.std.proofs.Common.{length, ap, ◌∙◌, arith}
 use Rattle.std.proofs.lemmas.List.{length-set}
-use Rattle.seek.proofs.Lines.{climb_start}
 use Rattle.seek.proofs.Turns.{next_climb, next_below, joined, trace_again, trace_keeps}
 use Rattle.seek.proofs.Puts.{put-wrote}
 use Rattle.seek.proofs.way.Way.trace.Goals as goal
-
-pub loop-left-init : goal.loop-left-init
-loop-left-init g c =
-    record {
-      climb = climb_start c.args.self.now.places.now c.args.self.now.last c.depth-all.result c.depth-all.ensures;
-      shown = λ d l h. absurd (omega arith);
-      same = λ j l. refl;
-      lender = refl;
-      len = omega (arith, c.reserve.ensures.grown, c.requires.empty);
-      sized = refl;
-    }
 
 pub bounds-self-parent : goal.bounds-self-parent
 bounds-self-parent g c =
@@ -40,14 +28,4 @@ loop-left-preserved g c =
       lender = c.put.ensures.lender ∙ inv.lender;
       len = c.put.ensures.len ∙ inv.len;
       sized = ap length wrote ∙ length-set before i s ∙ inv.sized;
-    }
-
-pub returns : goal.returns
-returns g c =
-    let inv = c.loop-left.invariant in
-    record {
-      lender = inv.lender ∙ c.reserve.ensures.lender;
-      shown = record { turn = c.turn-turn.result; turned = c.turn-turn.ensures; shown = λ d l h. inv.shown d (omega (arith, c.loop-left-test.false)) h };
-      sized = inv.sized ∙ c.reserve.ensures.sized;
-      rest = λ j h. inv.same j h ∙ c.reserve.ensures.rest j (omega (arith, c.reserve.ensures.grown, c.requires.empty, c.depth-all.ensures, h));
     }

@@ -1,10 +1,6 @@
-use Rattle.std.proofs.Common.{inl, inr, arith}
-use Rattle.seek.proofs.Lines.{climb_start}
+use Rattle.std.proofs.Common.{inr, arith}
 use Rattle.seek.proofs.Turns.{turn_again, turn_done}
 use Rattle.seek.proofs.way.Way.turn.Goals as goal
-
-pub loop-left-init : goal.loop-left-init
-loop-left-init g c = record { climb = climb_start c.args.self.now.places.now c.args.self.now.last c.depth-left.result c.depth-left.ensures; late = λ d l h. absurd (omega arith) }
 
 pub loop-left-preserved : goal.loop-left-preserved
 loop-left-preserved g c =
@@ -15,7 +11,3 @@ pub returns-then-phase_of-PHASES : goal.returns-then-phase_of-PHASES
 returns-then-phase_of-PHASES g c =
     turn_done c.args.self.now (g.met.P.Policy.sound c.args.self.now.chart.now.regime.now.policy.now) c.loop-left.here c.loop-left.left c.loop-left.invariant
     (inr (λ e. c.if-phase_of-PHASES.true (omega (arith, e, c.phase_of.ensures, c.PHASES.ensures, g.met.A.Activity.counted)))) _ (omega arith)
-
-pub returns : goal.returns
-returns g c =
-    turn_done c.args.self.now (g.met.P.Policy.sound c.args.self.now.chart.now.regime.now.policy.now) c.loop-left.here c.loop-left.left c.loop-left.invariant (inl (omega arith)) _ (omega arith)
