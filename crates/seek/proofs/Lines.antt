@@ -18,9 +18,6 @@ pub record Climb (ps : List Place) (last here left : ℕ) : Type 0 where
   pub within : left ≤ (at ps last).depth
   pub place : here ≡ up ps last ((at ps last).depth - left)
 
-pub climb_start : (ps : List Place) (last left : ℕ) → left ≡ (at ps last).depth → Climb ps last last left
-climb_start ps last left e = let z : 0 ≡ (at ps last).depth - left = omega arith in record { below = omega arith; within = omega arith; place = ap (up ps last) z }
-
 module _ (p : Problem) (ps : List Place) (last : ℕ) (sound : (i : ℕ) → i ≤ last → SoundPlace p ps i (at ps i)) where
   abbrev k : ℕ
   k = (at ps last).depth
