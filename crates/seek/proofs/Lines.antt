@@ -3,7 +3,7 @@ use Rattle.std.proofs.Common.{◌≡◌, ℕ, zero, suc, ◌+◌, ◌-◌, ◌/�
 use Rattle.std.proofs.lemmas.Bool.{and_parts, leb-true}
 use Rattle.std.proofs.lemmas.Nat.{div_below}
 use Rattle.search.specs.Problem.{Problem}
-use Rattle.search.specs.Queue.{at, Found}
+use Rattle.search.specs.Queue.{at, Sound as SoundPlace}
 use Rattle.search.specs.declared.Place.{Place}
 use Rattle.access.specs.Policy.{Meaning}
 use Rattle.access.specs.Sound.{Sound as SoundMeaning}
@@ -18,10 +18,7 @@ pub record Climb (ps : List Place) (last here left : ℕ) : Type 0 where
   pub within : left ≤ (at ps last).depth
   pub place : here ≡ up ps last ((at ps last).depth - left)
 
-pub climb_start : (ps : List Place) (last left : ℕ) → left ≡ (at ps last).depth → Climb ps last last left
-climb_start ps last left e = let z : 0 ≡ (at ps last).depth - left = omega arith in record { below = omega arith; within = omega arith; place = ap (up ps last) z }
-
-module _ (p : Problem) (ps : List Place) (last : ℕ) (f : Found p ps last) where
+module _ (p : Problem) (ps : List Place) (last : ℕ) (sound : (i : ℕ) → i ≤ last → SoundPlace p ps i (at ps i)) where
   abbrev k : ℕ
   k = (at ps last).depth
 
@@ -29,26 +26,26 @@ module _ (p : Problem) (ps : List Place) (last : ℕ) (f : Found p ps last) wher
   climbed zero h = (omega arith, omega arith)
   climbed (suc i) h =
       let r = climbed i (omega arith) in
-      let s = f.sound (up ps last i) r.0 in
+      let s = sound (up ps last i) r.0 in
       let deep : 0 < (at ps (up ps last i)).depth = omega arith in
       (omega (arith, s.earlier deep), omega (arith, (s.after deep).depth))
 
   pub inside : (d : ℕ) → d ≤ k → line ps last d < p.nodes
-  inside d h = (f.sound (up ps last (k - d)) (climbed (k - d) (omega arith)).0).node
+  inside d h = (sound (up ps last (k - d)) (climbed (k - d) (omega arith)).0).node
 
   pub joins : (d : ℕ) → d < k → p.edge (line ps last d) (line ps last (suc d)) ≡ true
   joins d h =
       let i = k - suc d in
       let r = climbed (k - suc d) (omega arith) in
-      let s = f.sound (up ps last (k - suc d)) r.0 in
+      let s = sound (up ps last (k - suc d)) r.0 in
       let e : suc (k - suc d) ≡ k - d = omega arith in
       subst (λ j. p.edge (at ps (up ps last j)).node (line ps last (suc d)) ≡ true) e (s.after (omega arith)).edge
 
   pub begins : p.source (line ps last 0) ≡ true
-  begins = let r = climbed (k - 0) (omega arith) in (f.sound (up ps last (k - 0)) r.0).source (omega arith)
+  begins = let r = climbed (k - 0) (omega arith) in (sound (up ps last (k - 0)) r.0).source (omega arith)
 
-  pub ends : p.target (line ps last k) ≡ true
-  ends = let e : 0 ≡ k - k = omega arith in subst (λ j. p.target (at ps (up ps last j)).node ≡ true) e f.target
+  pub ends : p.target (at ps last).node ≡ true → p.target (line ps last k) ≡ true
+  ends target = let e : 0 ≡ k - k = omega arith in subst (λ j. p.target (at ps (up ps last j)).node ≡ true) e target
 
   -- one place back
   pub record Back (here left : ℕ) : Type 0 where
@@ -63,7 +60,7 @@ module _ (p : Problem) (ps : List Place) (last : ℕ) (f : Found p ps last) wher
       let g : suc (k - left) ≡ k - (left - 1) = omega (arith, c.within) in
       let g' : left ≡ suc (left - 1) = omega arith in
       let deep : 0 < (at ps here).depth = subst (λ x. 0 < (at ps x).depth) (sym c.place) (omega (arith, c.within)) in
-      let earlier = (f.sound here c.below).earlier deep in
+      let earlier = (sound here c.below).earlier deep in
       let q : (at ps here).parent ≡ up ps last (k - (left - 1)) = ap (λ x. (at ps x).parent) c.place ∙ ap (up ps last) g in
       record {
         climb = record { below = omega (arith, earlier, c.below); within = omega (arith, c.within); place = q };
@@ -73,7 +70,7 @@ module _ (p : Problem) (ps : List Place) (last : ℕ) (f : Found p ps last) wher
       }
 
 -- in the graph of an activity phases rise along the way
-module _ (kind : Search) (m : Meaning) (gs : Grants) (A B : ℕ → Bool) (l : SoundMeaning m) (ps : List Place) (last : ℕ) (f : Found (plan kind m gs A B) ps last) where
+module _ (kind : Search) (m : Meaning) (gs : Grants) (A B : ℕ → Bool) (l : SoundMeaning m) (ps : List Place) (last : ℕ) (sound : (i : ℕ) → i ≤ last → SoundPlace (plan kind m gs A B) ps i (at ps i)) where
   abbrev n : ℕ
   n = m.contexts
 
@@ -84,7 +81,7 @@ module _ (kind : Search) (m : Meaning) (gs : Grants) (A B : ℕ → Bool) (l : S
   all = (at ps last).depth
 
   rise : (d : ℕ) → d < all → x d / n ≤ x (suc d) / n
-  rise d h = leb-true (x d / n) (x (suc d) / n) (and_parts _ _ (joins (plan kind m gs A B) ps last f d h)).0
+  rise d h = leb-true (x d / n) (x (suc d) / n) (and_parts _ _ (joins (plan kind m gs A B) ps last sound d h)).0
 
   rises : (e d : ℕ) → d + e ≤ all → x d / n ≤ x (d + e) / n
   rises zero d h = let o : d ≡ d + 0 = omega arith in subst (λ j. x d / n ≤ x j / n) o (omega arith)
@@ -100,7 +97,7 @@ module _ (kind : Search) (m : Meaning) (gs : Grants) (A B : ℕ → Bool) (l : S
         early = λ d b.
             let o : suc d + (t - suc d) ≡ t = omega arith in
             let r = subst (λ j. x (suc d) / n ≤ x j / n) o (rises (t - suc d) (suc d) (omega arith)) in
-            let q = div_below (x t) n kind.phases l.a_context (inside (plan kind m gs A B) ps last f t h) in
+            let q = div_below (x t) n kind.phases l.a_context (inside (plan kind m gs A B) ps last sound t h) in
             ⊎_elim (λ z. omega arith) (λ z. ne (x (suc d) / n) (x t / n) kind.phases r q z) stop;
         late = late;
       }

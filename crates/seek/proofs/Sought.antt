@@ -64,8 +64,8 @@ module _ (m : Meaning) (gs : Grants) (l : Sound m) {kind : Search} {back : Bool}
       let k = (at ps last).depth in
       let few : k < n = few_edges kind m gs A B l ps last f in (
         traced_found m gs laws (line ps last) k ss' t (omega arith) l (among n A) B
-            (subst T (sym (and_parts _ _ (begins p ps last f)).1) tt)
-            (subst T (sym (ends p ps last f)) tt)
+            (subst T (sym (and_parts _ _ (begins p ps last f.sound)).1) tt)
+            (subst T (sym (ends p ps last f.sound f.target)) tt)
             (least_reached m gs l laws (among n A) B ins (Way p) begin onward k f.least),
         same_rest k ss ss' sized same,
       )
@@ -73,7 +73,7 @@ module _ (m : Meaning) (gs : Grants) (l : Sound m) {kind : Search} {back : Bool}
   pub shortest_sought : (ps : List Place) (last : ℕ) → FoundPlace (plan kind m gs A B) ps last → Shortest m gs (Leads activities (among m.contexts A) B) (at ps last).depth
   shortest_sought ps last f =
       let k = (at ps last).depth in
-      path_shortest m gs l laws (among n A) B k (line ps last) (inside_line p ps last f) (joins p ps last f)
-      (subst T (sym (and_parts _ _ (begins p ps last f)).1) tt)
-      (subst T (sym (ends p ps last f)) tt)
+      path_shortest m gs l laws (among n A) B k (line ps last) (inside_line p ps last f.sound) (joins p ps last f.sound)
+      (subst T (sym (and_parts _ _ (begins p ps last f.sound)).1) tt)
+      (subst T (sym (ends p ps last f.sound f.target)) tt)
       (least_reached m gs l laws (among n A) B ins (Way p) begin onward k f.least)

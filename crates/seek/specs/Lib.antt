@@ -1,3 +1,4 @@
 pub mod Plan
 pub mod Charts
+pub mod Ways
 pub mod Sought

@@ -5,3 +5,4 @@
 pub mod chart;
 pub mod measure;
 pub mod seek;
+mod way;

@@ -19,8 +19,8 @@ returns-in_default-clause-answer g c =
       (none_sought m gs (g.met.P.Policy.sound c.args.regime.now.policy.now) g.met.A.Activity.lawful (member c.args.from) (member c.args.to) answer.1, refl),
     )
 
-pub write-requires-clause-fits : goal.write-requires-clause-fits
-write-requires-clause-fits g c =
+pub write-requires : goal.write-requires
+write-requires g c =
     let m = g.P.Policy.meaning c.args.regime.now.policy.now in
     let gs = grants_of c.args.regime.now in
     let is : c.search.result ≡ Ok (Some c.in-Some.last) = search rules in

@@ -1,6 +1,6 @@
 use Rattle.std.proofs.Common.{◌≡◌, ◌+◌, length}
 use Rattle.activities.specs.Traced.{SameFrom}
-use Rattle.seek.proofs.seek.reserve.Given as goal
+use Rattle.seek.proofs.way.reserve.Given as goal
 
 abbrev pub invariant-loop : goal.invariant-loop
 invariant-loop l =
