@@ -29,6 +29,18 @@ LINES = {
     "7 switch on which step to run": r"\benum Key\b|match (key|property\.template)\b|Key::\w+\(\w+\)\)",
 }
 
+# Parameters that several functions take together.
+BUNDLES = [
+    ("policy", "grants"),
+    ("graph", "ticks", "places"),
+    ("heads", "records"),
+    ("places", "last"),
+    ("ticks", "places"),
+    ("from", "to"),
+    ("subject", "target"),
+    ("s", "t"),
+]
+
 
 def files(commit):
     if commit:
@@ -93,7 +105,7 @@ def main():
             for clause in clauses:
                 facts[clause].add(here)
             taken = set(re.findall(r"(\w+): ", parameters))
-            for bundle in (("policy", "grants"), ("graph", "ticks", "places"), ("heads", "records"), ("ticks", "places"), ("from", "to")):
+            for bundle in BUNDLES:
                 if taken.issuperset(bundle):
                     bundles[bundle].add(here)
     for twins in shapes.values():
@@ -103,7 +115,7 @@ def main():
         if len(where) > 2:
             found["5 fact in three contracts or more"].append(f"{{ {clause} }}: {len(where)}")
     for bundle, where in bundles.items():
-        if len(where) > 2:
+        if len(where) > 1:
             found["5 parameters together: " + ", ".join(bundle)] += sorted(where)
     for point in sorted(found):
         print(f"{len(found[point]):4} {point}")

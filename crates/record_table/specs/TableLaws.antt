@@ -27,13 +27,13 @@ use Rattle.record_table.specs.Steps.{next_low}
 use Rattle.record_table.specs.Writes.{Arrays, arrays_first, arrays_slot, first_set, numbered_set}
 
 -- chains that a table of n contexts can have
-pub record Stands (n : ℕ) (k : Chains) : Type 0 where
+pub record SoundChains (n : ℕ) (k : Chains) : Type 0 where
   pub arrays : Arrays k
   pub laid : ∥ Laid n (first_of k.heads) (numbered k.slots) ∥₁
 
 -- the chains after the set of a pair was replaced
 pub record Wrote (p : RecordTable) (s t v : ℕ) (k : Chains) : Type 0 where
-  pub stands : Stands p.contexts k
+  pub sound : SoundChains p.contexts k
   pub means : chain_meaning p.contexts (first_of k.heads) (numbered k.slots) ≡ with_set (table_meaning p) s t v
 
 abbrev pub Within : Option ℕ → Type 0
@@ -130,7 +130,7 @@ module _ (p : RecordTable) where
     wrote : (v : ℕ) (k : Chains) → Arrays k → (now_first : ℕ → ℕ) (new : ℕ → Record) → first_of k.heads ≡ now_first → numbered k.slots ≡ new
         → ((l : Laid n first mem) → Effect n first mem l s t v now_first new) → Wrote p s t v k
     wrote v k ok now_first new a b e = record {
-      stands = record { arrays = ok; laid = rw (a, b) (∥∥₁_map p.laid (λ l. (e l).0)) };
+      sound = record { arrays = ok; laid = rw (a, b) (∥∥₁_map p.laid (λ l. (e l).0)) };
       means = ap₂ (chain_meaning n) a b ∙ ap (with_written (table_meaning p)) (fun_ext (λ x. fun_ext (λ y. ∥∥₁_elim p.laid (ℕ_set _ _) (λ l. written_after n first mem l s t v at now_first new (e l) x y))));
     }
 

@@ -5,7 +5,7 @@ ghost use Rattle.access.specs.Setting.{no_room, with_set};
 ghost use Rattle.record_table.specs.Chains.{first_of};
 ghost use Rattle.record_table.specs.Chained.{TableChained};
 ghost use Rattle.record_table.specs.TableMeaning.{table_meaning, empty_table, Pair, Has, Lacks, Own};
-ghost use Rattle.record_table.specs.TableLaws.{table_sound, Stands};
+ghost use Rattle.record_table.specs.TableLaws.{table_sound, SoundChains};
 
 use crate::chains::{Chains, Record, UNUSED};
 use crate::table::RecordTable;
@@ -57,7 +57,7 @@ impl RecordTable {
 
     /// Goes on with other chains.
     fn replace(&mut self, chains: Chains)
-        requires { Stands self.old.contexts chains }
+        requires { SoundChains self.old.contexts chains }
         ensures contexts { self.new.contexts ≡ self.old.contexts }
         ensures chains { self.new.chains ≡ chains }
     {
