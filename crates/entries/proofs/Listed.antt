@@ -1,7 +1,6 @@
 -- A list of entries, one of them replaced.
-use Rattle.std.proofs.Common.{◌≡◌, ℕ, suc, ◌+◌, ◌-◌, ◌<◌, ◌≤◌, Bool, true, false, cond, ◌⊎◌, List, [], ◌∷◌, length, get_or, set, replicate, Some, None, Option, sym, refl, ap, ◌∙◌, subst, ap₂, inl, inr, arith, get_or-set_other, get_or-set_same}
+use Rattle.std.proofs.Common.{◌≡◌, ℕ, suc, ◌+◌, ◌-◌, ◌<◌, ◌≤◌, Bool, true, false, cond, ◌⊎◌, List, [], ◌∷◌, length, get_or, set, Some, None, Option, sym, refl, ap, ◌∙◌, subst, ap₂, inl, inr, arith, get_or-set_other, get_or-set_same}
 use mathlib.Core.Path.{fun_ext}
-use lib.ListN.{get_or-replicate}
 use Rattle.std.proofs.lemmas.Bool.{cases_Bool, cases_eq, eq-eqb, ne_eqb}
 use Rattle.access.specs.Contexts.{inside, index_of}
 use Rattle.access.proofs.ContextLaws.{inside_parts, inside_from}
@@ -24,16 +23,6 @@ listed_put {E} most es k i e is long =
         let s = inside_parts most j q in
         rw (q, ne_eqb j k p) (get_or-set_other es (k - 1) (j - 1) e None (omega (arith, r.0, s.0)))
     at r j (inr p) (inr q) = rw (q, ne_eqb j k p) refl
-
--- a list of nothing holds nothing
-pub listed_none : {E : Type 0} (most : ℕ) → listed {E = E} most (replicate most None) ≡ (λ k. None)
-listed_none {E} most = fun_ext (λ j. at j (cases_Bool (inside most j)))
-  where
-    at : (j : ℕ) → (inside most j ≡ true) ⊎ (inside most j ≡ false) → listed {E = E} most (replicate most None) j ≡ None
-    at j (inl q) =
-        let r = inside_parts most j q in
-        rw q (get_or-replicate most (j - 1) None None (omega (arith, r.0, r.1)))
-    at j (inr q) = rw q refl
 
 -- entries that are those of a list, in order, are the list
 ordered : {E : Type 0} (f : Entries E) (k : ℕ) (es : List (Option E)) → ((j : ℕ) → j < length es → f (suc k + j) ≡ get_or es j None) → in_order f k (length es) ≡ es

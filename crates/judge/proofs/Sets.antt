@@ -1,5 +1,5 @@
 -- The sets that are made to search from one source.
-use Rattle.std.proofs.Common.{◌≡◌, ℕ, zero, suc, ◌-◌, ◌≤◌, Bool, true, false, not, ◌&&◌, ◌||◌, T, eqb, sym, refl, ap, ◌∙◌, subst, ap₂, ⊎_elim, arith}
+use Rattle.std.proofs.Common.{◌≡◌, ℕ, zero, suc, ◌-◌, ◌≤◌, Bool, true, false, not, ◌&&◌, ◌||◌, T, eqb, sym, ap, ◌∙◌, subst, ap₂, ⊎_elim, arith}
 use mathlib.Core.Path.{fun_ext}
 use Rattle.std.proofs.lemmas.Bool.{cases_eq, cases_Bool, eq-eqb, ne_eqb, and_right}
 use Rattle.access.specs.Contexts.{inside, member, some_to, empty}
@@ -24,10 +24,6 @@ none_in s e c h =
     let some = T_true _ (some_from 256 (member s) c i.0 i.1 h) in
     subst T (e ∙ ap not some) tt
 
--- no context is up to 0
-pub upto_none : (d : ℕ) (b : Bool) → false ≡ (inside 0 d && b)
-upto_none d b = sym (ap (λ x. x && b) (outside_from 0 d (λ h l. omega arith)))
-
 inside_other : (b d : ℕ) → 1 ≤ b → (d ≡ b → ⊥) → inside (b - 1) d ≡ inside b d
 inside_other b d low n =
     ⊎_elim
@@ -46,12 +42,6 @@ upto_more p set b low others here d =
 module _ (p set : ℕ → Bool) (b : ℕ) (low : 1 ≤ b) (so : (d : ℕ) → set d ≡ (inside (b - 1) d && p d)) where
   pub upto_skip : false ≡ p b → (d : ℕ) → set d ≡ (inside b d && p d)
   upto_skip e = upto_more p set b low (λ d _. so d) (so b ∙ ap (λ x. x && p b) (outside_from (b - 1) b (λ l h. omega (arith, h))) ∙ e)
-
-  pub upto_take : b ≤ 256 → true ≡ p b → (more : ℕ → Bool) → ((d : ℕ) → more d ≡ ((inside 256 b && eqb d b) || set d)) → (d : ℕ) → more d ≡ (inside b d && p d)
-  upto_take high e more is_more =
-      upto_more p more b low
-      (λ d z. is_more d ∙ ap (λ x. x || set d) (and_right (inside 256 b) (eqb d b) (ne_eqb d b z)) ∙ so d)
-      (is_more b ∙ ap (λ x. x || set b) (ap₂ ◌&&◌ (inside_from 256 b low high) (eq-eqb b b refl)) ∙ e)
 
 -- the set of one context
 pub one_is : (n a : ℕ) (none one : ContextSet) → 1 ≤ a → a ≤ n → n ≤ 256 → ((d : ℕ) → member none d ≡ false) → ((d : ℕ) → member one d ≡ ((inside 256 a && eqb d a) || member none d)) → among n (member one) ≡ (λ c. eqb c a)

@@ -85,10 +85,6 @@ module _ (m : Meaning) (gs : Grants) (A B : ℕ → Bool) where
   abbrev n : ℕ
   n = m.contexts
 
-  -- what the nearest source measures is there to be shown
-  pub still_there : (q : Near) → Nearest m gs A B m.contexts q → NoneRealised m gs (From m B q.source) → ⊥
-  still_there q best never = let f = best.found in never f.moves f.sought f.realises
-
   module _ (ins_A : AllInside m.contexts A) (ins_B : AllInside m.contexts B) where
     fails : (a b : ℕ) → T (B b) → (ReadsDirectly m a b → ⊥) → T (unread_in m B n a b)
     fails a b h away = both (inside n b) _ (ins_B b h) (both (B b) _ h (not_T (direct m a b) (λ d. away (direct_found m a b d))))

@@ -1,6 +1,6 @@
 -- The record table keeps what every policy keeps.
 use Rattle.std.specs.Prelude.{◌≡◌, ℕ, ◌<◌, ◌≤◌, true, false, List, length, IfSome, Some, None, Option, ◌==◌, refl}
-use Rattle.std.proofs.Common.{sym, ap, ap₂, ◌∙◌, ⊎_elim, arith}
+use Rattle.std.proofs.Common.{ap, ap₂, ◌∙◌, ⊎_elim, arith}
 use Rattle.std.proofs.Math.Path.{fun_ext}
 use Rattle.std.proofs.Math.Logic.{∥∥₁_elim, ∥∥₁_map}
 use Rattle.std.proofs.Math.Nat.{ℕ_set}
@@ -17,7 +17,7 @@ use Rattle.record_table.specs.declared.chains.Chains.{Chains}
 use Rattle.record_table.specs.declared.table.RecordTable.{RecordTable}
 use Rattle.record_table.specs.Chains.{numbered, first_of, ahead, linked_to, with_operations, entry, with_first, with_record, cut, in_front}
 use Rattle.record_table.specs.Laid.{Laid}
-use Rattle.record_table.specs.TableMeaning.{chain_meaning, table_meaning, held, Has, Lacks, Own, Pair}
+use Rattle.record_table.specs.TableMeaning.{chain_meaning, table_meaning, held, Has, Lacks, Pair}
 use Rattle.record_table.specs.ChainsLemmas.{upd, begins, ends}
 use Rattle.record_table.specs.Layouts.{Effect, written_is, written_after, filled_is, known_all, held_some}
 use Rattle.record_table.specs.Changing.{changed}
@@ -98,10 +98,6 @@ module _ (p : RecordTable) where
     cut_mems : (o : Option ℕ) → Within o → numbered (cut o p.chains c next).slots ≡ cut_mem o mem next
     cut_mems None h = refl
     cut_mems (Some b) h = numbered_set slots b (linked_to (mem b) next) h.0 (omega (arith, h.1, p.sizes.3))
-
-  pub own_from : (s t : ℕ) (o : Option ℕ) → o ≡ held p s t → Within o → Own p s t o
-  own_from s t None e h = sym e
-  own_from s t (Some i) e h = (sym e, h.0, h.1)
 
   module _ (s t : ℕ) (at : Pair p.contexts s t) where
     inside : both_inside n s t ≡ true

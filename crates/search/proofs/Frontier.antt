@@ -201,18 +201,6 @@ at_kept same l m x =
       depth = omega (arith, ap (λ (y : Place). y.depth) e, x.depth);
     }
 
--- one part of a search after another
-module _ (p : Problem) {t₀ t₁ t₂ : List ℕ} {s₀ s₁ s₂ : List Place} {a b c : ℕ} where
-  pub grown_then : Grown p t₀ t₁ s₀ s₁ a b → Grown p t₁ t₂ s₁ s₂ b c → Grown p t₀ t₂ s₀ s₂ a c
-  grown_then g h =
-      record {
-        queue = h.queue;
-        sized = h.sized ∙ g.sized;
-        further = omega (arith, g.further, h.further);
-        same = λ i l. h.same i (omega (arith, g.further)) ∙ g.same i l;
-        beyond = λ i l. h.beyond i l ∙ g.beyond i (omega (arith, h.further));
-      }
-
 module _ (p : Problem) {t₀ t₁ : List ℕ} {s₀ s₁ : List Place} {a b : ℕ} (d : ℕ) where
   pub ready : {S : ℕ → Type 0} → Went p t₀ t₁ s₀ s₁ a b d S → Ready p t₁ s₁ b d
   ready g = record { queue = g.grown.queue; «open» = g.«open»; within = g.within }

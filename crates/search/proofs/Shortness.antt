@@ -118,16 +118,3 @@ short p n h b k t w least =
     let l : Least p (k + 0) = λ c j u x. omega (arith, least c j u x) in
     let r = seen p n h w.start b w.begins t b k 0 w.walk (stay (inside w.walk)) l in
     omega (arith, r.1.counted, total_le r.0 n r.1.marks)
-
--- in any graph a shortest walk has fewer edges than there are nodes
-pub short_nodes : (p : Problem) → Short p p.nodes
-short_nodes p =
-    short p p.nodes
-    (record {
-      context = λ v. v;
-      phase = λ _. 0;
-      few = λ v l. l;
-      forward = λ u v _ _ _. omega arith;
-      edges = λ u v w _ _ _ c _ e. subst (λ x. p.edge x w ≡ true) (sym c) e;
-      targets = λ u v _ _ c _ e. subst (λ x. p.target x ≡ true) (sym c) e;
-    })
