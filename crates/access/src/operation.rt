@@ -2,7 +2,6 @@
 ghost use Rattle.std.specs.Prelude.{◌≡◌, Some};
 ghost use Rattle.access.specs.Operations.{number_of, kind_of, name_of, Numbered};
 
-use std::error::Error;
 use std::fmt;
 
 /// What an operation does: which way information goes by it, if any.
@@ -114,11 +113,3 @@ impl fmt::Display for Operation {
         f.write_str(self.name())
     }
 }
-
-impl fmt::Display for UnknownOperation {
-    fn fmt<W: fmt::Write>(&self, f: &mut fmt::Formatter<W>) -> fmt::Result {
-        write!(f, "no operation has number {}", self.0)
-    }
-}
-
-impl Error for UnknownOperation {}

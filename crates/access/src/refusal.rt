@@ -1,6 +1,6 @@
 //! Why a call, or a policy text, is refused.
-ghost use Rattle.std.specs.Prelude.{◌≡◌};
-ghost use Rattle.access.specs.Refusals.{refusal_number};
+ghost use Rattle.std.specs.Prelude.{◌≡◌, Some};
+ghost use Rattle.access.specs.Refusals.{refusal_number, words_of};
 
 use std::error::Error;
 use std::fmt;
@@ -54,6 +54,8 @@ impl From<Refusal> for u8 {
 }
 
 impl fmt::Display for Refusal {
+    ghost output = { λ refusal. Some (words_of refusal) };
+
     fn fmt<W: fmt::Write>(&self, f: &mut fmt::Formatter<W>) -> fmt::Result {
         f.write_str(match self {
             Refusal::NumberOutside => "a grant or property number is outside its range",
