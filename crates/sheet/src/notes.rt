@@ -19,7 +19,7 @@ pub(crate) struct Notes {
 
 // Clauses see the notes, the latest first.
 impl Model for Notes {
-    ghost use Rattle.std.specs.Prelude.{List, ◌≤◌};
+    ghost use Rattle.std.specs.Prelude.{List, ◌≡◌, ◌≤◌, length};
     ghost use Rattle.sheet.specs.declared.note.Note.{Note};
     ghost use Rattle.sheet.specs.Noted.{latest};
 
@@ -27,7 +27,7 @@ impl Model for Notes {
 
     ghost view = { λ notes. latest notes.list notes.count };
 
-    ghost invariant = { λ notes. notes.count ≤ 128 };
+    ghost invariant = { λ notes. (length notes.list ≡ 128) × (notes.count ≤ 128) };
 }
 
 impl Notes {
