@@ -7,7 +7,7 @@ use crate::numbers::index_in;
 use std::array;
 
 /// A mark for each context from 1 to 256. Context c is bit (c - 1) % 64 of word (c - 1) / 64.
-#[derive(Clone, Copy, Debug, Default, PartialEq, Eq, Hash)]
+#[derive(Clone, Copy, Debug, PartialEq, Eq)]
 pub struct ContextSet {
     words: [u64; 4],
 }

@@ -5,7 +5,7 @@ ghost use Rattle.access.specs.Operations.{number_of, kind_of, name_of, Numbered}
 use std::fmt;
 
 /// What an operation does: which way information goes by it, if any.
-#[derive(Clone, Copy, Debug, PartialEq, Eq, Hash)]
+#[derive(Clone, Copy, Debug, PartialEq, Eq)]
 pub enum Kind {
     Reads,
     Writes,
@@ -16,7 +16,7 @@ pub enum Kind {
 }
 
 /// An operation that a subject may do on a target. Its number is its place in this list, from 0.
-#[derive(Clone, Copy, Debug, PartialEq, Eq, Hash)]
+#[derive(Clone, Copy, Debug, PartialEq, Eq)]
 pub enum Operation {
     Read,
     Write,
@@ -33,7 +33,7 @@ pub enum Operation {
 }
 
 /// A number that none of the twelve operations has.
-#[derive(Clone, Copy, Debug, PartialEq, Eq, Hash)]
+#[derive(Clone, Copy, Debug, PartialEq, Eq)]
 pub struct UnknownOperation(pub u8);
 
 impl Operation {
@@ -53,7 +53,7 @@ impl Operation {
     }
 
     /// The name by which policy texts and reports call the operation.
-    // Beside `Display`, for who compares names: a formatter only writes them.
+    // Beside `Display`: reading a policy text compares names, and a formatter only writes them.
     pub fn name(self) -> &'static str
         ensures { result.now ≡ name_of self }
     {

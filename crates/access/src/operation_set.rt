@@ -5,7 +5,7 @@ ghost use Rattle.access.specs.Operations.{number_of, has, one, without, unknown,
 use crate::operation::Operation;
 
 /// Sixteen bits; bit o stands for operation o. Bits 12 to 15 stand for none, and no policy keeps them.
-#[derive(Clone, Copy, Debug, Default, PartialEq, Eq, Hash)]
+#[derive(Clone, Copy, Debug, PartialEq, Eq)]
 pub struct OperationSet {
     pub bits: u16,
 }

@@ -6,7 +6,7 @@ use std::error::Error;
 use std::fmt;
 
 /// Why a call, or a policy text, is refused. Of several that apply, the first in this list is answered.
-#[derive(Clone, Copy, Debug, PartialEq, Eq, Hash)]
+#[derive(Clone, Copy, Debug, PartialEq, Eq)]
 pub enum Refusal {
     /// A grant or property number is outside its range.
     NumberOutside,

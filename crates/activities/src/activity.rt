@@ -25,6 +25,7 @@ pub trait Activity {
     ghost activities: { ℕ → ℕ → List Moving → Type 0 };
 
     /// The move by which an activity goes on from one context to another in a phase.
+    // Each kind writes its moves out: worked out from the two constants, they would have to be read backwards.
     fn step(phase: usize, from: u16, to: u16) -> Move
         ensures { moved result ≡ kind.move phase from to };
 

@@ -6,6 +6,7 @@ ghost use Rattle.std.specs.Prelude.{◌≡◌, ◌<◌, ◌≤◌, not, length, 
 ghost use Rattle.lent.specs.Changes.{Pushed};
 
 /// A list whose items are the first `len` of a lent slice: memory is lent and fixed, so a vector cannot hold them.
+// Each contract says that the slice is still the lent one: an invariant could not know which that was.
 #[derive(Drop)]
 pub struct List<'a, T> {
     items: &'a mut [T],

@@ -1,7 +1,6 @@
 -- The standing grants, entry by entry.
-use Rattle.std.proofs.Common.{◌≡◌, ℕ, zero, suc, ◌+◌, ◌<◌, true, false, T, List, [], ◌∷◌, length, get_or, ◌++◌, Some, None, Option, sym, refl, ap, ◌∙◌, subst, inl, inr, ⊎_elim, arith}
+use Rattle.std.proofs.Common.{rules, IsSome, ◌≡◌, ℕ, zero, suc, ◌+◌, ◌<◌, true, false, T, List, [], ◌∷◌, length, get_or, ◌++◌, Some, None, Option, sym, refl, ap, ◌∙◌, subst, inl, inr, ⊎_elim, arith}
 use lib.Bits.{bit_and, bit_or, or_zero_r}
-use Rattle.std.specs.Option.{unwrap_or}
 use Rattle.std.proofs.lemmas.Bool.{cases_lt}
 use Rattle.access.specs.Operations.{has}
 use Rattle.access.specs.Policy.{Meaning, Allows}
@@ -101,7 +100,11 @@ module _ (m : Meaning) (gs : Grants) (s t o : ℕ) where
         (λ g. let r = granting gs s t o g in n r.number (record { over = r.over; gives = r.gives }))
         (or_has (m.written s t) (granted gs s t) o c.1)
 
-    -- so it comes from the lowest grant that gives it
-    pub from_giver : T (has (possible m gs s t) o) → (giver : Option ℕ) (k : ℕ) → k ≡ unwrap_or giver 0 → Giver gs s t o giver → Origin m gs (doing s t o) k
-    from_giver h None k e n = absurd (some_gives h n)
-    from_giver h (Some j) k e l = subst (Origin m gs (doing s t o)) (sym e) (inr (not_allowed, l.0, l.1))
+    -- so a grant gives it
+    pub some_giver : T (has (possible m gs s t) o) → (giver : Option ℕ) → Giver gs s t o giver → IsSome giver
+    some_giver h None n = absurd (some_gives h n)
+    some_giver h (Some j) l = search rules
+
+    -- and it comes from the lowest one that does
+    pub from_giver : (giver : Option ℕ) (k : ℕ) → giver ≡ Some k → Giver gs s t o giver → Origin m gs (doing s t o) k
+    from_giver giver k e l = let g = subst (Giver gs s t o) e l in inr (not_allowed, g.0, g.1)

@@ -1,4 +1,4 @@
-//! What legal runs are under.
+//! Regimes.
 
 use crate::grant::Grant;
 

@@ -21,7 +21,7 @@ pub struct Step {
     pub subject: u16,
     pub target: u16,
     pub operation: Operation,
-    // reports tell an origin as a number, 0 for the policy itself
+    // An origin is told as a number, 0 for the policy itself, in reports and in the definition `Origin`.
     pub origin: u8,
 }
 
@@ -35,7 +35,7 @@ impl<P: Policy> Regime<'_, P> {
         if own.has(operation) {
             return 0;
         }
-        lowest_giver(self.grants, s, t, operation).unwrap_or(0)
+        lowest_giver(self.grants, s, t, operation).unwrap()
     }
 
     /// The step of the lowest operation of a set that is possible on a pair.
@@ -53,6 +53,7 @@ impl<P: Policy> Regime<'_, P> {
 
     /// The step that shows a move, if some legal run makes it: by the giver's lowest operation, or by the taker's where the
     /// giver has none.
+    // Move by move like `makes`, which a search asks at each edge: by one function of both it would look for a step there.
     pub fn show(&self, chosen: Move) -> Option<Step>
         ensures { ShownAs (meaning_of P.Policy.meaning self.now) (grants_of self.now) (moved chosen) result }
     {

@@ -13,7 +13,7 @@ pub(crate) const UNUSED: u16 = 0;
 pub struct Record {
     pub(crate) target: u16,
     pub(crate) operations: OperationSet,
-    // A number, 0 for none, and so in `heads`: links that point would need a heap, and a table has fixed memory.
+    // 0 for none, and so in `heads`: the form of a record is fixed, a number of 16 bits for a link.
     pub(crate) next: u16,
 }
 
@@ -62,7 +62,8 @@ impl Chains {
         self.heads[usize::from(chain)]
     }
 
-    /// The record with this number.
+    // Here and below, that a number is one from 1 to 1,024 and a chain one up to 256 stands at each function: records store plain
+    // numbers with 0 for none, so a type of numbers would be made and taken apart at each use.
     pub(crate) fn at(&self, number: u16) -> Record
         requires { (1 ≤ number) × (number ≤ 1024) }
         ensures { result ≡ numbered self.now.slots number }
@@ -86,6 +87,7 @@ impl Chains {
         ensures within { IfSome result (λ i. (1 ≤ i) × (i ≤ 1024)) }
     {
         let mut number = first;
+        // No chain has more records, and a loop has to end.
         for _ in 0..1024u16 {
             if number == 0 {
                 return None;

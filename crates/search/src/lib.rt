@@ -12,7 +12,7 @@ use lent::{Cleared, List};
 #[derive(Clone, Copy, Debug, Default, PartialEq, Eq)]
 pub struct Place {
     pub node: u16,
-    // Means nothing at depth 0: an `Option` would only say again what the depth says.
+    // An index into the places, which lie in lent memory; at depth 0 it means nothing, and an `Option` would say that again.
     pub parent: u16,
     pub depth: u16,
 }
@@ -28,6 +28,7 @@ pub trait Graph {
     fn nodes(&self) -> u16
         ensures { result ≡ (problem self.now).nodes };
 
+    // Each function asks for a node: which numbers are nodes depends on the graph.
     fn edge(&self, from: u16, to: u16) -> bool
         requires { (from < (problem self.now).nodes) × (to < (problem self.now).nodes) }
         ensures { result ≡ (problem self.now).edge from to };
@@ -56,6 +57,7 @@ fn visit<G: Graph>(
     ensures stepped { Stepped (G.problem graph.now) ticks.old ticks.new places.old places.new place.depth (λ v. v ≡ place.node) result }
 {
     ticks.tick(place.node as usize);
+    // There is room: no node is pushed twice.
     let _ = places.push(place);
     graph.target(place.node)
 }
