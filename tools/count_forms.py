@@ -32,6 +32,8 @@ LINES = {
 # Parameters that several functions take together.
 BUNDLES = [
     ("policy", "grants"),
+    ("policy", "grants", "set"),
+    ("regime", "set"),
     ("graph", "ticks", "places"),
     ("heads", "records"),
     ("places", "last"),
@@ -54,16 +56,25 @@ def files(commit):
             yield name, open(name).read()
 
 
+def after(text, i, opening, closing):
+    """Where what opens at i has closed; an arrow closes nothing."""
+    depth = 0
+    while True:
+        if text[i : i + 2] == "->":
+            i += 1
+        else:
+            depth += {opening: 1, closing: -1}.get(text[i], 0)
+        i += 1
+        if not depth:
+            return i
+
+
 def functions(text):
     """Each function: its line, its name, its parameters, its clauses, its body."""
-    for m in re.finditer(r"^[ ]*(?:pub(?:\(crate\))? )?fn (\w+)[^(]*\(", text, re.M):
-        i = depth = 1
-        i = m.end()
-        while depth:
-            depth += {"(": 1, ")": -1}.get(text[i], 0)
-            i += 1
-        parameters = text[m.end() : i - 1]
-        body = re.compile(r"^[ ]*\{(.*?)^[ ]*\}$", re.M | re.S).match(text, text.find("\n", i) + 1)
+    for m in re.finditer(r"^[ ]*(?:pub(?:\(crate\))? )?fn (\w+)", text, re.M):
+        start = after(text, m.end(), "<", ">") if text[m.end()] == "<" else m.end()
+        i = after(text, start, "(", ")")
+        parameters = text[start + 1 : i - 1]
         j, clauses = text.find("\n", i) + 1, []
         while c := re.compile(r"[ ]*(requires|ensures)\s*\w*\s*\{ (.*) \}\n").match(text, j):
             clauses.append(c.group(2))
@@ -103,7 +114,8 @@ def main():
             elif len(shape(body)) >= 6:
                 shapes[" ".join(body.split())].append(here)
             for clause in clauses:
-                facts[clause].add(here)
+                for fact in clause.replace("self.now.", "").split(" × "):
+                    facts[fact.strip("()")].add(here)
             taken = set(re.findall(r"(\w+): ", parameters))
             for bundle in BUNDLES:
                 if taken.issuperset(bundle):
@@ -115,7 +127,7 @@ def main():
         if len(where) > 2:
             found["5 fact in three contracts or more"].append(f"{{ {clause} }}: {len(where)}")
     for bundle, where in bundles.items():
-        if len(where) > 1:
+        if where:
             found["5 parameters together: " + ", ".join(bundle)] += sorted(where)
     for point in sorted(found):
         print(f"{len(found[point]):4} {point}")

@@ -4,7 +4,7 @@ use Rattle.access.specs.Contexts.{inside}
 use Rattle.access.specs.Policy.{Meaning}
 use Rattle.access.proofs.Tests.{both, both_parts}
 use Rattle.verdicts.specs.Runs.{Grants}
-use Rattle.verdicts.specs.Activities.{Move, Push, Pull, Property as Forbidding, integrity, confidentiality, domain, consistency, Forbids}
+use Rattle.verdicts.specs.Activities.{Move, Push, Pull, Property as Forbidding, integrity, confidentiality, consistency, Forbids}
 use Rattle.verdicts.specs.Laws.{AllInside, OfContexts}
 use Rattle.verdicts.specs.Verdicts.{Guaranteed as Holds}
 use Rattle.verdicts.proofs.Agreement.{never_both}
@@ -15,7 +15,7 @@ use Rattle.activities.proofs.Properties.{found_broken}
 use Rattle.seek.specs.Plan.{among}
 use Rattle.seek.specs.Sought.{Suffices}
 use Rattle.properties.specs.declared.property.Template.{Template}
-use Rattle.properties.specs.declared.property.Template.TheVariants.{Integrity, Confidentiality, Domain, Consistency}
+use Rattle.properties.specs.declared.property.Template.TheVariants.{Integrity, Confidentiality, Consistency}
 use Rattle.judge.specs.Judged.{forbidding, Judged, Tells}
 use Rattle.judge.specs.declared.verdict.Verdict.{Verdict}
 use Rattle.judge.specs.declared.verdict.Verdict.TheVariants.{Guaranteed, Broken}
@@ -62,9 +62,6 @@ module _ (m : Meaning) (gs : Grants) (ss ss' : List Step) where
 
     pub by_pull : t ≡ Confidentiality → Tells m gs (Leads Pull (among m.contexts A) B) ss ss' v → OfContexts m.contexts (forbidding t A B) → Judged m gs (forbidding t A B) ss ss' v
     by_pull e h = subst VerdictOn (sym e) (λ o. judged_by (confidentiality A B) (Leads Pull (among m.contexts A) B) (among_from Pull m.contexts A B o.0) (among_to Pull m.contexts A B) v h)
-
-    pub by_contact : t ≡ Domain → Tells m gs (Forbids m (domain A)) ss ss' v → OfContexts m.contexts (forbidding t A B) → Judged m gs (forbidding t A B) ss ss' v
-    by_contact e h = subst VerdictOn (sym e) (λ o. judged_by (domain A) (Forbids m (domain A)) (λ ms f. f) (λ ms f. f) v h)
 
     pub by_flow : t ≡ Consistency → (AllInside m.contexts A → AllInside m.contexts B → Tells m gs (Forbids m (consistency A B)) ss ss' v) → OfContexts m.contexts (forbidding t A B) → Judged m gs (forbidding t A B) ss ss' v
     by_flow e h = subst VerdictOn (sym e) (λ o. judged_by (consistency A B) (Forbids m (consistency A B)) (λ ms f. f) (λ ms f. f) v (h o.0 o.1))

@@ -20,15 +20,11 @@ fn apart(set: ContextSet, s: u16, t: u16) -> bool
     set.has(s) != set.has(t)
 }
 
-/// The step by which `s` does something on `t`, if the two are apart and some legal run makes one.
-fn crossing_at<P: Policy>(regime: &Regime<'_, P>, set: ContextSet, s: u16, t: u16) -> Option<Step>
-    ensures { AcrossAt (meaning_of P.Policy.meaning regime.now) (grants_of regime.now) (member set) s t result }
-{
-    if apart(set, s, t) {
-        regime.show(Move::Contact(s, t))
-    } else {
-        None
-    }
+/// The contacts across the edge of a set.
+#[derive(Drop)]
+pub(crate) struct Domain<'a, P> {
+    pub(crate) regime: &'a Regime<'a, P>,
+    pub(crate) set: ContextSet,
 }
 
 /// The first answer that is a step, of those at the contexts 1 to n.
@@ -36,6 +32,7 @@ fn first_step<F: Fn(u16) -> Option<Step>>(contexts: u16, look: F) -> Option<Step
     requires { F.IsAlwaysCallable look }
     ensures { MatchOption result ((c : ℕ) → 1 ≤ c → c ≤ contexts → F.post look c None) (λ step. (c : ℕ) × F.post look c (Some step)) }
 {
+    // Not `find_map` on the range: of it only a run is known, and the proof of what that passed over did not close.
     for context in 1..=contexts {
         if let Some(step) = look(context) {
             return Some(step);
@@ -44,34 +41,43 @@ fn first_step<F: Fn(u16) -> Option<Step>>(contexts: u16, look: F) -> Option<Step
     None
 }
 
-/// The first such step by which `s` does something.
-fn crossing_from<P: Policy>(regime: &Regime<'_, P>, set: ContextSet, s: u16) -> Option<Step>
-    ensures { AcrossFrom (meaning_of P.Policy.meaning regime.now) (grants_of regime.now) (member set) s (meaning_of P.Policy.meaning regime.now).contexts result }
-{
-    first_step(regime.policy.contexts(), |t| crossing_at(regime, set, s, t))
-}
-
-/// The first such step.
-fn crossing<P: Policy>(regime: &Regime<'_, P>, set: ContextSet) -> Option<Step>
-    ensures { AcrossAll (meaning_of P.Policy.meaning regime.now) (grants_of regime.now) (member set) (meaning_of P.Policy.meaning regime.now).contexts result }
-{
-    first_step(regime.policy.contexts(), |s| crossing_from(regime, set, s))
-}
-
-/// Judges a domain.
-pub(crate) fn by_contact<P: Policy>(
-    regime: &Regime<'_, P>,
-    set: ContextSet,
-    steps: &mut [Step],
-) -> Verdict
-    requires { (meaning_of P.Policy.meaning regime.now).contexts ≤ length steps.old }
-    ensures { Tells (meaning_of P.Policy.meaning regime.now) (grants_of regime.now) (Forbids (meaning_of P.Policy.meaning regime.now) (domain (member set))) steps.old steps.new result }
-{
-    match crossing(regime, set) {
-        Some(step) => {
-            steps[0] = step;
-            Verdict::Broken { steps: 1 }
+impl<P: Policy> Domain<'_, P> {
+    /// The step by which `s` does something on `t`, if the two are apart and some legal run makes one.
+    fn crossing_at(&self, s: u16, t: u16) -> Option<Step>
+        ensures { AcrossAt (meaning_of P.Policy.meaning self.now.regime.now) (grants_of self.now.regime.now) (member self.now.set) s t result }
+    {
+        if apart(self.set, s, t) {
+            self.regime.show(Move::Contact(s, t))
+        } else {
+            None
         }
-        None => Verdict::Guaranteed,
+    }
+
+    /// The first such step by which `s` does something.
+    fn crossing_from(&self, s: u16) -> Option<Step>
+        ensures { AcrossFrom (meaning_of P.Policy.meaning self.now.regime.now) (grants_of self.now.regime.now) (member self.now.set) s (meaning_of P.Policy.meaning self.now.regime.now).contexts result }
+    {
+        first_step(self.regime.policy.contexts(), |t| self.crossing_at(s, t))
+    }
+
+    /// The first such step.
+    fn crossing(&self) -> Option<Step>
+        ensures { AcrossAll (meaning_of P.Policy.meaning self.now.regime.now) (grants_of self.now.regime.now) (member self.now.set) (meaning_of P.Policy.meaning self.now.regime.now).contexts result }
+    {
+        first_step(self.regime.policy.contexts(), |s| self.crossing_from(s))
+    }
+
+    /// Judges a domain.
+    pub(crate) fn judge(&self, steps: &mut [Step]) -> Verdict
+        requires { (meaning_of P.Policy.meaning self.now.regime.now).contexts ≤ length steps.old }
+        ensures { Tells (meaning_of P.Policy.meaning self.now.regime.now) (grants_of self.now.regime.now) (Forbids (meaning_of P.Policy.meaning self.now.regime.now) (domain (member self.now.set))) steps.old steps.new result }
+    {
+        match self.crossing() {
+            Some(step) => {
+                steps[0] = step;
+                Verdict::Broken { steps: 1 }
+            }
+            None => Verdict::Guaranteed,
+        }
     }
 }

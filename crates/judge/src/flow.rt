@@ -82,6 +82,7 @@ impl<P: Policy> Flows<'_, P> {
     fn ends(&self, a: u16) -> ContextSet
         ensures { (d : ℕ) → member result d ≡ unread_in (meaning_of P.Policy.meaning self.now.regime.now) (member self.now.to) (meaning_of P.Policy.meaning self.now.regime.now).contexts a d }
     {
+        // Not a fold, and so in `nearest`: a closure would have to carry what the round before it established.
         let mut ends = ContextSet::none();
         for b in 1..=self.regime.policy.contexts() {
             ends = self.ends_up_to(ends, a, b);

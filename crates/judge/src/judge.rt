@@ -5,7 +5,7 @@ ghost use Rattle.moves.specs.Regimes.{meaning_of, grants_of};
 ghost use Rattle.seek.specs.Sought.{Suffices};
 ghost use Rattle.judge.specs.Judged.{property_of, Judged, Answered};
 
-use crate::contact::by_contact;
+use crate::contact::Domain;
 use crate::flow::Flows;
 use crate::sought::by_search;
 use crate::verdict::Verdict;
@@ -41,7 +41,7 @@ fn decide<'a, P: Policy>(
         }
         Template::Domain => {
             let _cleared = Cleared::over(ticks);
-            by_contact(regime, from, steps)
+            Domain { regime, set: from }.judge(steps)
         }
         Template::Consistency => Flows { regime, from, to }.judge(ticks, places, steps),
     }
@@ -49,7 +49,7 @@ fn decide<'a, P: Policy>(
 
 /// Judges a property under a policy with standing grants: guaranteed, or broken in so many steps, which then stand in front
 /// of `steps` in working order. Refused where a lent slice is too short; the ticks are handed back all zero in any case.
-// Lent memory as three slices, and so below: of a struct of them each contract would owe that it still lends the same three.
+// Lent memory as three slices, and so in `decide`, `by_search` and `Flows`: of a struct of them each contract would owe that it still lends the same three.
 pub fn judge<'a, P: Policy>(
     regime: &'a Regime<'a, P>,
     property: Property,

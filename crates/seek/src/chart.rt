@@ -23,6 +23,7 @@ pub(crate) struct Chart<'a, A, P> {
 }
 
 impl<'a, A: Activity, P: Policy> Chart<'a, A, P> {
+    // A regime and two sets, as in `seek`.
     pub(crate) fn between(
         regime: &'a Regime<'a, P>,
         from: ContextSet,

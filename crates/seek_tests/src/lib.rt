@@ -22,12 +22,6 @@ mod tests {
 
     const NO_GRANT: [Option<Grant>; 32] = [None; 32];
 
-    const PLACE: Place = Place {
-        node: 0,
-        parent: 0,
-        depth: 0,
-    };
-
     const STEP: Step = Step {
         subject: 0,
         target: 0,
@@ -61,7 +55,7 @@ mod tests {
     #[test]
     fn no_transition_follows_a_transfer(rt: HostRuntime) -> Result<(), Fail> {
         let mut ticks = [7; 8];
-        let mut places = [PLACE; 8];
+        let mut places = [Place::default(); 8];
         let mut steps = [STEP; 4];
         let Ok(table) = detour() else {
             return Err(Fail::new("the detour is not accepted"));
@@ -77,7 +71,7 @@ mod tests {
             &mut places,
             &mut steps,
         );
-        assert!(rt; matches!(found, Ok(Some(3))));
+        assert_eq!(rt; found, Ok(Some(3)));
         assert_eq!(rt; steps[0], step(1, Operation::Become, 3, 0));
         assert_eq!(rt; steps[1], step(3, Operation::Become, 2, 0));
         assert_eq!(rt; steps[2], step(2, Operation::Become, 4, 0));
@@ -89,7 +83,7 @@ mod tests {
     #[test]
     fn a_flow_is_shown_as_the_information_goes(rt: HostRuntime) {
         let mut ticks = [0; 6];
-        let mut places = [PLACE; 6];
+        let mut places = [Place::default(); 6];
         let mut steps = [STEP; 3];
         let mut table = RecordTable::new(3);
         assert!(rt;
@@ -117,7 +111,7 @@ mod tests {
             &mut places,
             &mut steps,
         );
-        assert!(rt; matches!(found, Ok(Some(2))));
+        assert_eq!(rt; found, Ok(Some(2)));
         assert_eq!(rt; steps[0], step(3, Operation::Append, 2, 0));
         assert_eq!(rt; steps[1], step(1, Operation::Read, 2, 0));
     }
@@ -125,7 +119,7 @@ mod tests {
     #[test]
     fn the_giver_is_shown_and_the_lowest_grant(rt: HostRuntime) {
         let mut ticks = [0; 4];
-        let mut places = [PLACE; 4];
+        let mut places = [Place::default(); 4];
         let mut steps = [STEP; 2];
         let mut table = RecordTable::new(2);
         assert!(rt; table.set(2, 1, OperationSet::from(Operation::Read)).is_ok());
@@ -148,14 +142,14 @@ mod tests {
             &mut places,
             &mut steps,
         );
-        assert!(rt; matches!(found, Ok(Some(1))));
+        assert_eq!(rt; found, Ok(Some(1)));
         assert_eq!(rt; steps[0], step(1, Operation::Signal, 2, 5));
     }
 
     #[test]
     fn short_memory_is_refused(rt: HostRuntime) {
         let mut ticks = [3; 3];
-        let mut places = [PLACE; 4];
+        let mut places = [Place::default(); 4];
         let mut steps = [STEP; 2];
         let table = RecordTable::new(2);
         let found = seek::<Pull, RecordTable>(
@@ -169,7 +163,7 @@ mod tests {
             &mut places,
             &mut steps,
         );
-        assert!(rt; matches!(found, Err(Refusal::ShortMemory)));
+        assert_eq!(rt; found, Err(Refusal::ShortMemory));
         assert!(rt; ticks[0] == 0 && ticks[2] == 0);
     }
 }

@@ -76,7 +76,7 @@ impl<P: Policy> Sheet<P> {
         Ok(())
     }
 
-    // Like `enter_grant` but for the test and the table: as one function of both, these two lines would be three.
+    // Like `enter_grant` but for the test and the table: as one function of both, it would be as long as this.
     pub fn enter_property(&mut self, number: u16, property: Property) -> Result<(), Refusal>
         ensures { Serves P.Policy.meaning answer (EnterProperty number property) self.old result self.new }
     {

@@ -12,7 +12,7 @@ const MOST_NOTES: usize = 128;
 /// The first `count` of the list are the notes, in the order in which they came.
 #[derive(Drop)]
 pub(crate) struct Notes {
-    // an array and a count: a sheet has fixed memory and no heap
+    // An array and a count: a sheet has fixed memory and no heap.
     list: [Note; MOST_NOTES],
     count: usize,
 }

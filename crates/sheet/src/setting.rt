@@ -20,7 +20,7 @@ fn put_back<P: Policy>(policy: &mut P, mut notes: Notes)
     ensures { Undoable notes (P.Policy.meaning policy.old) → P.Policy.meaning policy.new ≡ undo notes (P.Policy.meaning policy.old) }
 {
     while let Some(note) = notes.take_latest() {
-        // never refused: it returns to what stood before
+        // Never refused: it returns to what stood before.
         let _ = policy.set(note.subject, note.target, note.before);
     }
 }
@@ -73,6 +73,7 @@ impl<P: Policy> Sheet<P> {
     }
 
     /// Ends a change and puts back every set that it replaced, the latest first.
+    // Like `adopt` at first: the lines that both have would need a contract longer than they are.
     pub fn withdraw(&mut self, change: Change) -> Result<(), Undecided>
         ensures { Serves P.Policy.meaning (spent change) Withdraw self.old result self.new }
     {

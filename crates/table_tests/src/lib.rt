@@ -13,23 +13,20 @@ mod tests {
 
     const NONE: OperationSet = OperationSet { bits: 0 };
 
-    // Whether all settings of the subjects 1 to 4 on all 256 targets are accepted: 1,024 pairs.
-    fn set_all(table: &mut RecordTable, operations: OperationSet) -> bool {
-        let mut accepted = true;
+    // Sets the subjects 1 to 4 on all 256 targets: 1,024 pairs.
+    fn set_all(table: &mut RecordTable, operations: OperationSet) -> Result<(), Refusal> {
         for s in 1..=4 {
             for t in 1..=256 {
-                if table.set(s, t, operations).is_err() {
-                    accepted = false;
-                }
+                table.set(s, t, operations)?;
             }
         }
-        accepted
+        Ok(())
     }
 
     #[test]
     fn a_full_table_takes_a_new_pair_after_one_is_emptied(rt: HostRuntime) {
         let mut table = RecordTable::new(256);
-        assert!(rt; set_all(&mut table, READ));
+        assert_eq!(rt; set_all(&mut table, READ), Ok(()));
         assert_eq!(rt; table.set(5, 1, READ), Err(Refusal::PolicyFull));
         assert!(rt; table.written(5, 1).is_empty());
         assert!(rt; table.set(2, 7, OperationSet { bits: 9 }).is_ok());
@@ -45,9 +42,9 @@ mod tests {
     fn emptied_records_are_used_again(rt: HostRuntime) {
         let mut table = RecordTable::new(256);
         for _ in 0..3 {
-            assert!(rt; set_all(&mut table, READ));
+            assert_eq!(rt; set_all(&mut table, READ), Ok(()));
             assert_eq!(rt; table.set(5, 1, READ), Err(Refusal::PolicyFull));
-            assert!(rt; set_all(&mut table, NONE));
+            assert_eq!(rt; set_all(&mut table, NONE), Ok(()));
         }
         assert_eq!(rt; table.written(4, 256).bits, 0);
     }

@@ -1,22 +1,15 @@
 -- The lowest possible operation that passes a test: that there is one, and how a set shows it.
-use Rattle.std.proofs.Common.{◌≡◌, ℕ, zero, suc, ◌<◌, ◌≤◌, Bool, ◌&&◌, T, [], ◌∷◌, sym, refl, ap, ◌∙◌, subst, ⊎_elim, arith}
-use lib.Bits.{bit_and}
-use lib.Count.{count_trailing_zeros}
+use Rattle.std.proofs.Common.{◌≡◌, ℕ, zero, suc, ◌≤◌, Bool, ◌&&◌, T, [], ◌∷◌, sym, refl, ◌∙◌, subst, ⊎_elim, arith}
 use Rattle.std.proofs.lemmas.Bool.{cases_lt, and_parts}
-use Rattle.access.specs.Operations.{Lowest, kind_of, has, set_of}
-use Rattle.access.specs.declared.operation.Kind.{Kind}
-use Rattle.access.specs.declared.operation.Kind.TheVariants.{Neither}
+use Rattle.access.specs.Operations.{Lowest, has}
 use Rattle.access.specs.Policy.{Meaning, Interaction}
 use Rattle.verdicts.specs.Runs.{Grants}
 use Rattle.verdicts.specs.Possible.{possible, any_below}
 use Rattle.verdicts.specs.Verdicts.{LowestPossible}
-use Rattle.access.proofs.Bits.{has_some, has_and}
-use Rattle.access.proofs.Tests.{both, both_parts, either_part, cases_test, T_true, T_false}
+use Rattle.access.proofs.Tests.{both, both_parts, either_part, cases_test}
 use Rattle.verdicts.proofs.Bounded.{any_from}
-use Rattle.verdicts.proofs.Reduction.{reduction, and_has}
-use Rattle.access.proofs.OperationLaws.{kind_below}
+use Rattle.verdicts.proofs.Reduction.{reduction}
 use Rattle.verdicts.proofs.Moves.{doing, does_has}
-use Rattle.access.proofs.OperationLaws.{trailing_lowest, has_kinds}
 
 -- the least number that passes a test
 pub least : (test : ℕ → Bool) (k : ℕ) → T (any_below test k) → (o : ℕ) × T (test o) × ((j : ℕ) → T (test j) → o ≤ j)
@@ -53,22 +46,3 @@ module _ (m : Meaning) (gs : Grants) where
       let c = and_parts (test o) (has (possible m gs s t) o) (sym (is o) ∙ l.held) in
       lowest_at s t test o (subst T (sym c.0) tt) (subst T (sym c.1) tt) (λ j x y.
       ⊎_elim (λ b. absurd (subst T (sym (is j) ∙ l.none_below j b) (both (test j) (has (possible m gs s t) j) x y))) (λ b. b) (cases_lt j o))
-
-  -- the same by trailing zeros, of a set of at most k bits
-  pub lowest_by_zeros : (k s t : ℕ) (test : ℕ → Bool) (set : ℕ) → ((o : ℕ) → has set o ≡ (test o && has (possible m gs s t) o)) → ((o : ℕ) → T (has set o) → o < k) → (set ≡ 0 → ⊥) → LowestPossible m gs s t test (doing s t (count_trailing_zeros k set))
-  lowest_by_zeros k s t test set is below some =
-      let z = count_trailing_zeros k set in
-      let e = has_some set some in
-      lowest_in s t test set z is (record {
-        held = T_true (has set z) (trailing_lowest k set e.0 e.1 (below e.0 e.1)).0;
-        none_below = λ j b. T_false (has set j) (λ h. omega (arith, (trailing_lowest k set j h (below j h)).1));
-      })
-
-  -- the same of the operations of some kinds: the trailing zeros of those that are possible
-  pub lowest_of_kinds : (test : Kind → Bool) → (T (test Neither) → ⊥) → (s t : ℕ) → (bit_and (set_of (λ o. test (kind_of o)) 12) (possible m gs s t) ≡ 0 → ⊥) → LowestPossible m gs s t (λ o. test (kind_of o)) (doing s t (count_trailing_zeros 16 (bit_and (set_of (λ o. test (kind_of o)) 12) (possible m gs s t))))
-  lowest_of_kinds test n s t some =
-      let mask = set_of (λ o. test (kind_of o)) 12 in
-      lowest_by_zeros 16 s t (λ o. test (kind_of o)) (bit_and mask (possible m gs s t))
-      (λ o. has_and mask (possible m gs s t) o ∙ ap (λ b. b && has (possible m gs s t) o) (has_kinds test o n))
-      (λ o h. let l = kind_below test o n (subst T (has_kinds test o n) (and_has mask (possible m gs s t) o h).0) in omega arith)
-      some

@@ -6,7 +6,7 @@ use Rattle.verdicts.specs.Runs.{Grants}
 use Rattle.verdicts.specs.Activities.{Move, transition, transfer, Property, integrity, confidentiality, domain, consistency, ReadsDirectly, Forbids}
 use Rattle.verdicts.specs.Possible.{makeable}
 use Rattle.verdicts.specs.Searches.{Search, pushing, pulling, flowing}
-use Rattle.verdicts.specs.Verdicts.{Realises, Guaranteed, Step, Broken}
+use Rattle.verdicts.specs.Verdicts.{Realises, Step, Broken}
 use Rattle.verdicts.proofs.Moves.{realised}
 use Rattle.verdicts.proofs.Agreement.{broken_realised}
 use Rattle.verdicts.proofs.Walks.{Walk, stop, go, size_most, shorten, push_walk, walk_push, pull_walk, walk_pull, flow_walk, walk_flow}
@@ -87,12 +87,6 @@ module _ (m : Meaning) (gs : Grants) where
         let x = walk_spreads (kind_of p) (R w.from) (spreads w.from) w.walk 0 (start w.from w.to w.sought) in
         let e : 0 + length ms ≡ length ms = omega arith in
         (w.from, w.to, w.sought, (x.0, subst (λ k. R w.from k x.0 w.to) e x.1))
-
-    pub search_shortest : (n : ℕ) → ((a k q b : ℕ) → Sought m p a b → R a k q b → n ≤ k) → (ms : List Move) → Forbids m p ms → Realises m gs ms → n ≤ length ms
-    search_shortest n far ms f r = let x = search_reach ms f r in far x.0 (length ms) x.3.0 x.1 x.2 x.3.1
-
-    pub search_closed : ((a k q b : ℕ) → Sought m p a b → R a k q b → ⊥) → Guaranteed m gs p
-    search_closed away ms f r = let x = search_reach ms f r in away x.0 (length ms) x.3.0 x.1 x.2 x.3.1
 
   -- ---- no more steps than contexts
 

@@ -37,12 +37,6 @@ const OPENING: u16 = 4;
 const LOG: u16 = 5;
 
 /// What the memory that a search is lent holds before.
-const NO_PLACE: Place = Place {
-    node: 0,
-    parent: 0,
-    depth: 0,
-};
-
 const NO_STEP: Step = Step {
     subject: 0,
     target: 0,
@@ -149,7 +143,7 @@ fn ask<A: Activity, P: Policy>(
 ) -> io::Result<()> {
     println!(rt; "  {question}")?;
     let mut ticks = [0; 10];
-    let mut places = [NO_PLACE; 10];
+    let mut places = [Place::default(); 10];
     let mut steps = [NO_STEP; 5];
     let keypad = ContextSet::none().with(KEYPAD);
     let opening = ContextSet::none().with(OPENING);
@@ -157,18 +151,9 @@ fn ask<A: Activity, P: Policy>(
     print_found(rt, found, &steps)
 }
 
-fn ask_both<P: Policy>(
-    rt: &impl Print,
-    policy: &P,
-    grants: &[Option<Grant>; 32],
-) -> io::Result<()> {
-    let regime = Regime { policy, grants };
-    ask::<Push, P>(rt, &regime, "can the keypad get something to the opening?")?;
-    ask::<Pull, P>(
-        rt,
-        &regime,
-        "can the keypad get something from the opening?",
-    )
+fn ask_both<P: Policy>(rt: &impl Print, regime: &Regime<'_, P>) -> io::Result<()> {
+    ask::<Push, P>(rt, regime, "can the keypad get something to the opening?")?;
+    ask::<Pull, P>(rt, regime, "can the keypad get something from the opening?")
 }
 
 /// Lays out the sample controller, or prints why it cannot be.
@@ -192,15 +177,24 @@ fn tour(rt: &impl Print) -> io::Result<()> {
             println!(rt; "Changes to the sample controller:")?;
             change(rt, &mut controller)?;
             println!(rt; "With no grant:")?;
-            let mut grants = [None; 32];
-            ask_both(rt, &controller, &grants)?;
+            let none = [None; 32];
+            let regime = Regime {
+                policy: &controller,
+                grants: &none,
+            };
+            ask_both(rt, &regime)?;
             println!(rt; "With grant 1, by which maint may be given write on opening:")?;
+            let mut grants = none;
             grants[0] = Some(Grant {
                 subjects: ContextSet::none().with(MAINT),
                 targets: ContextSet::none().with(OPENING),
                 operations: OperationSet::from(Operation::Write),
             });
-            ask_both(rt, &controller, &grants)
+            let regime = Regime {
+                policy: &controller,
+                grants: &grants,
+            };
+            ask_both(rt, &regime)
         }
         Err(refusal) => print_answer(rt, "laying out", Err(refusal)),
     }

@@ -20,6 +20,6 @@ returns-in-Confidentiality g c =
 pub returns-in-Consistency : goal.returns-in-Consistency
 returns-in-Consistency g c =
     record {
-      judged = by_flow (meaning_of g.P.Policy.meaning c.args.regime.now) (grants_of c.args.regime.now) c.args.steps.now c.judge.new.steps (member c.args.property.first) (member c.args.property.second) c.args.property.template c.judge.result c.in-Consistency.is c.judge.ensures.told;
-      ticks = c.judge.ensures.ticks;
+      judged = by_flow (meaning_of g.P.Policy.meaning c.args.regime.now) (grants_of c.args.regime.now) c.args.steps.now c.judge-in-Consistency.new.steps (member c.args.property.first) (member c.args.property.second) c.args.property.template c.judge-in-Consistency.result c.in-Consistency.is c.judge-in-Consistency.ensures.told;
+      ticks = c.judge-in-Consistency.ensures.ticks;
     }

@@ -1,10 +1,10 @@
 use Rattle.std.proofs.Common.{arith, rules}
 use Rattle.judge.proofs.Crosses.{retold}
-use Rattle.judge.proofs.contact.crossing.Goals as goal
+use Rattle.judge.proofs.contact.Domain.crossing_from.Goals as goal
 
 pub returns : goal.returns
 returns g c =
     retold c.first_step.result
-    (λ none s low high. let e = none s low (omega (arith, c.contexts.ensures, high)) in search rules)
+    (λ none t low high. let e = none t low (omega (arith, c.contexts.ensures, high)) in search rules)
     (λ step some. let e = some.1 in search rules)
     c.first_step.ensures

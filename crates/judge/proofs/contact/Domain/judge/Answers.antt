@@ -1,0 +1,13 @@
+use Rattle.std.proofs.Common.{refl}
+use Rattle.access.specs.Contexts.{member}
+use Rattle.moves.specs.Regimes.{meaning_of, grants_of}
+use Rattle.judge.proofs.Crosses.{contact_some, contact_none}
+use Rattle.judge.proofs.contact.Domain.judge.Goals as goal
+
+pub returns-in-Some : goal.returns-in-Some
+returns-in-Some g c =
+    contact_some (meaning_of g.P.Policy.meaning c.args.self.now.regime.now) (grants_of c.args.self.now.regime.now) (g.met.P.Policy.sound c.args.self.now.regime.now.policy.now) (member c.args.self.now.set) c.args.steps.now c.in-Some.step c.requires c.in-Some.ensures
+
+pub returns-in-None : goal.returns-in-None
+returns-in-None g c =
+    (contact_none (meaning_of g.P.Policy.meaning c.args.self.now.regime.now) (grants_of c.args.self.now.regime.now) (g.met.P.Policy.sound c.args.self.now.regime.now.policy.now) (member c.args.self.now.set) c.in-None.ensures, refl)
