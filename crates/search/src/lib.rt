@@ -174,6 +174,7 @@ pub fn search<G: Graph>(
     if marks.len() < nodes || room < nodes {
         return Err(TooShort);
     }
+    // No second answer beside the test: the target that was met is the last place.
     if explore(graph, &mut marks, &mut reached) {
         Ok(Some(reached.len() - 1))
     } else {

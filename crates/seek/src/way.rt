@@ -52,6 +52,7 @@ fn reserve(steps: &mut List<'_, Step>, count: usize)
         origin: 0,
     };
     for _ in 0..count {
+        // There is room, by what is required.
         let _ = steps.push(blank);
     }
 }
@@ -108,6 +109,7 @@ impl<A: Activity, P: Policy> Way<'_, A, P> {
             let step = self
                 .chart
                 .step(self.places[parent].node, self.places[here].node);
+            // There is such a step: `reserve` made it.
             let _ = steps.put(slot(A::BACKWARDS, turn, all, left), step);
             here = parent;
         }
