@@ -32,7 +32,8 @@ fn first_step<F: Fn(u16) -> Option<Step>>(contexts: u16, look: F) -> Option<Step
     requires { F.IsAlwaysCallable look }
     ensures { MatchOption result ((c : ℕ) → 1 ≤ c → c ≤ contexts → F.post look c None) (λ step. (c : ℕ) × F.post look c (Some step)) }
 {
-    // Not `find_map` on the range: of it only a run is known, and the proof of what that passed over did not close.
+    // No plainer by `find_map` on the range: its contract speaks of a run of the iterator, and what it passed over would need a
+    // longer answer than this loop, which needs none.
     for context in 1..=contexts {
         if let Some(step) = look(context) {
             return Some(step);
