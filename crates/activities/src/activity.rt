@@ -25,7 +25,7 @@ pub trait Activity {
     ghost activities: { ℕ → ℕ → List Moving → Type 0 };
 
     /// The move by which an activity goes on from one context to another in a phase.
-    // Each kind writes its moves out: worked out from the two constants, they would have to be read backwards.
+    // Each kind writes its moves out: one function over the two constants would hide which moves a kind has.
     fn step(phase: usize, from: u16, to: u16) -> Move
         ensures { moved result ≡ kind.move phase from to };
 

@@ -49,7 +49,8 @@ fn decide<'a, P: Policy>(
 
 /// Judges a property under a policy with standing grants: guaranteed, or broken in so many steps, which then stand in front
 /// of `steps` in working order. Refused where a lent slice is too short; the ticks are handed back all zero in any case.
-// Lent memory as three slices, and so in `decide`, `by_search` and `Flows`: of a struct of them each contract would owe that it still lends the same three.
+// Lent memory as three slices (two where no steps are written), and so in `seek`, `measure`, `decide`, `by_search` and `Flows`, with
+// what each asks or promises of them: of a struct of them each contract would owe that it still lends the same three.
 pub fn judge<'a, P: Policy>(
     regime: &'a Regime<'a, P>,
     property: Property,

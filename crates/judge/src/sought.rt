@@ -17,7 +17,7 @@ use search::Place;
 use seek::seek::seek;
 
 /// Judges that no activity of a kind leads from one set to another.
-// A regime and two sets, as in `seek`.
+// Unlike `Flows`, this calls one function with the three, so a struct of them would be built and taken apart once.
 pub(crate) fn by_search<'a, A: Activity, P: Policy>(
     regime: &'a Regime<'a, P>,
     from: ContextSet,

@@ -6,7 +6,8 @@ ghost use Rattle.std.specs.Prelude.{◌≡◌, ◌<◌, ◌≤◌, not, length, 
 ghost use Rattle.lent.specs.Changes.{Pushed};
 
 /// A list whose items are the first `len` of a lent slice: memory is lent and fixed, so a vector cannot hold them.
-// Each contract says that the slice is still the lent one: an invariant could not know which that was.
+// Each contract of a call that may change the list says that its slice is still the lent one, and so in `Cleared`: an invariant could
+// not know which that was.
 #[derive(Drop)]
 pub struct List<'a, T> {
     items: &'a mut [T],

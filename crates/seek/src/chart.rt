@@ -23,7 +23,7 @@ pub(crate) struct Chart<'a, A, P> {
 }
 
 impl<'a, A: Activity, P: Policy> Chart<'a, A, P> {
-    // A regime and two sets, as in `seek`.
+    // The constructor of the struct that holds the three.
     pub(crate) fn between(
         regime: &'a Regime<'a, P>,
         from: ContextSet,

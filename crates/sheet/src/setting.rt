@@ -73,7 +73,7 @@ impl<P: Policy> Sheet<P> {
     }
 
     /// Ends a change and puts back every set that it replaced, the latest first.
-    // Like `adopt` at first: the lines that both have would need a contract longer than they are.
+    // Like `adopt` at first: a contract of what both have would tell of the change, the token and the rest of the sheet, each way.
     pub fn withdraw(&mut self, change: Change) -> Result<(), Undecided>
         ensures { Serves P.Policy.meaning (spent change) Withdraw self.old result self.new }
     {

@@ -11,7 +11,7 @@ use moves::grant::Grant;
 use properties::property::Property;
 
 /// A policy with grants 1 to 32, properties 1 to 64, at most one open change, and the count of accepted settings.
-// That a book stands on it is said in each contract, and not here: a setting changes the policy and then the notes, and an
+// That a book stands on it is said in the contract of each public call, and not here: a setting changes the policy and then the notes, and an
 // invariant would have to hold in between.
 #[derive(Drop)]
 pub struct Sheet<P> {
