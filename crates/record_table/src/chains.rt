@@ -55,6 +55,8 @@ impl Chains {
     }
 
     /// The number of the chain's first record, or 0.
+    // Here and below, that a number is one from 1 to 1,024 or a chain one up to 256 stands at each function that takes one: records
+    // store plain numbers with 0 for none, so a type of numbers would be made and taken apart at each use.
     pub(crate) fn first(&self, chain: u16) -> u16
         requires { chain ≤ 256 }
         ensures { result ≡ first_of self.now.heads chain }
@@ -62,8 +64,7 @@ impl Chains {
         self.heads[usize::from(chain)]
     }
 
-    // Here and below, that a number is one from 1 to 1,024 and a chain one up to 256 stands at each function: records store plain
-    // numbers with 0 for none, so a type of numbers would be made and taken apart at each use.
+    /// The record with this number.
     pub(crate) fn at(&self, number: u16) -> Record
         requires { (1 ≤ number) × (number ≤ 1024) }
         ensures { result ≡ numbered self.now.slots number }

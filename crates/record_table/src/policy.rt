@@ -68,7 +68,8 @@ impl RecordTable {
     }
 
     /// Replaces the operations of record `number`, which the pair has.
-    // Here and below, that the pair is one of this table stands at each function: a type of pairs could not know the table.
+    // Here and below, that the pair is one of this table, and what the setting makes of its meaning, stands at each function: a type of
+    // pairs could not know the table. That the set is a known one stands there too: a second type of sets would serve these alone.
     fn change(&mut self, subject: u16, target: u16, number: u16, operations: OperationSet)
         requires pair { Pair self.old.contexts subject target }
         requires some { 1 ≤ operations.bits }
