@@ -11,7 +11,7 @@ use Rattle.sheet.specs.Judging.{fits, Fit}
 use Rattle.sheet.specs.Fitness.{FitnessStays}
 use Rattle.sheet.specs.declared.request.Request.{Request}
 use Rattle.sheet.proofs.Accepted.{after}
-use Rattle.sheet.specs.declared.request.Request.TheVariants.{Set, EnterGrant, StrikeGrant, EnterProperty, StrikeProperty, Open, Adopt, Withdraw, AskSettings, AskContexts, AskCapacity, AskWritten, AskPermitted}
+use Rattle.sheet.specs.declared.request.Request.TheVariants.{Set, EnterGrant, StrikeGrant, EnterProperty, StrikeProperty, Open, Adopt, Withdraw, Judge, AskSettings, AskContexts, AskCapacity, AskWritten, AskPermitted}
 
 -- a property that is entered is fit
 entered_fit : (b : Book) (k : ℕ) (p : Property) → refusal b (EnterProperty k p) ≡ None → fits b.policy.contexts (Some p) ≡ true
@@ -44,6 +44,7 @@ step b q f = after Fit b q (new q) f
     new Open e = f
     new Adopt e = f
     new Withdraw e = subst (λ (n : ℕ). (k : ℕ) → fits n (b.properties k) ≡ true) (same b.change) f
+    new (Judge n ts ps ss) e = f
     new AskSettings e = f
     new AskContexts e = f
     new AskCapacity e = f

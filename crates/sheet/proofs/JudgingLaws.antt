@@ -24,9 +24,10 @@ use Rattle.judge.specs.declared.verdict.Verdict.{Verdict}
 use Rattle.entries.specs.Entries.{in_order}
 use Rattle.entries.specs.Held.{held}
 use Rattle.entries.specs.Standing.{entry_at}
-use Rattle.sheet.specs.Book.{Book, unfit, unfit_second}
+use Rattle.sheet.specs.Book.{Book, unfit, unfit_second, short, refusal}
 use Rattle.sheet.specs.Stands.{shown, Stands}
-use Rattle.sheet.specs.Judging.{fits, short, judging_refusal, standing_grants, VerdictOn, Judges}
+use Rattle.sheet.specs.Judging.{fits, standing_grants, VerdictOn, Judges}
+use Rattle.sheet.specs.declared.request.Request.TheVariants.{Judge}
 use Rattle.sheet.specs.declared.sheet.Sheet.{Sheet}
 
 -- only one refusal has number 12
@@ -86,7 +87,7 @@ module _ (k : ℕ) (ts : List ℕ) (ps ps' : List Place) (ss ss' : List Step) wh
       → Answered b.policy (standing_grants b) (property_of p) ts ps ps' ss ss' r → Judges b k ts ps ps' ss ss' r
   judges b p ranged stands r a = go r a
     where
-      by_memory : (s : Bool) → short b.policy.contexts (length ts) (length ps) (length ss) ≡ s → judging_refusal b k (length ts) (length ps) (length ss) ≡ first_of ((s, why.ShortMemory) ∷ [])
+      by_memory : (s : Bool) → short b.policy.contexts (length ts) (length ps) (length ss) ≡ s → refusal b (Judge k (length ts) (length ps) (length ss)) ≡ first_of ((s, why.ShortMemory) ∷ [])
       by_memory s e = rw (ranged, stands, e) refl
 
       some_same : {q : Property} → b.properties k ≡ Some q → p ≡ q

@@ -10,7 +10,7 @@ use Rattle.sheet.specs.Withdrawal.{undeciding, all_undeciding, WithdrawalRestore
 use Rattle.sheet.specs.declared.request.Request.{Request}
 use Rattle.access.specs.declared.refusal.Refusal.TheVariants.{OpenAlready}
 use Rattle.sheet.proofs.Accepted.{after}
-use Rattle.sheet.specs.declared.request.Request.TheVariants.{Set, EnterGrant, StrikeGrant, EnterProperty, StrikeProperty, Open, Adopt, Withdraw, AskSettings, AskContexts, AskCapacity, AskWritten, AskPermitted}
+use Rattle.sheet.specs.declared.request.Request.TheVariants.{Set, EnterGrant, StrikeGrant, EnterProperty, StrikeProperty, Open, Adopt, Withdraw, Judge, AskSettings, AskContexts, AskCapacity, AskWritten, AskPermitted}
 
 -- a change is open, and its copy is w
 record Copies (w : Matrix) (c : Option Opened) : Type 0 where
@@ -31,6 +31,7 @@ step w b q u k = after (λ x. Copies w x.change) b q (new q u) k
     new Open u e = let is = k.is in let h : is_some b.change ≡ true = rw is refl in let z : refusal b Open ≡ Some OpenAlready = rw h refl in absurd (grind arith)
     new Adopt u e = differ (sym u)
     new Withdraw u e = differ (sym u)
+    new (Judge n ts ps ss) u e = k
     new AskSettings u e = k
     new AskContexts u e = k
     new AskCapacity u e = k

@@ -1,12 +1,12 @@
 -- The book: what stands on a sheet, told from the calls alone.
-use Rattle.std.specs.Prelude.{ℕ, ◌+◌, min, Bool, false, not, ◌||◌, List, [], ◌∷◌, is_some, Some, None, Option, ◌==◌, nat_le}
+use Rattle.std.specs.Prelude.{ℕ, ◌+◌, ◌*◌, min, Bool, false, not, ◌||◌, List, [], ◌∷◌, is_some, Some, None, Option, ◌==◌, nat_le, nat_lt}
 use Rattle.access.specs.Operations.{unknown}
 use Rattle.access.specs.Contexts.{inside, both_inside, has_above, empty, meet}
 use Rattle.access.specs.Policy.{Matrix, Meaning, with_written}
 use Rattle.access.specs.Refusals.{first_of, when_accepted}
 use Rattle.access.specs.Setting.{no_room, with_set}
 use Rattle.access.specs.declared.refusal.Refusal.{Refusal}
-use Rattle.access.specs.declared.refusal.Refusal.TheVariants.{NumberOutside, StandsAlready, ContextOutside, UnfitOperations, UnfitSet, SharedContext, OpenAlready, NoneOpen, NotesFull, PolicyFull}
+use Rattle.access.specs.declared.refusal.Refusal.TheVariants.{NumberOutside, StandsAlready, StandsNot, ContextOutside, UnfitOperations, UnfitSet, SharedContext, OpenAlready, NoneOpen, NotesFull, PolicyFull, ShortMemory}
 use Rattle.entries.specs.Entries.{Entries, put}
 use Rattle.entries.specs.Standing.{striking_refusal}
 use Rattle.access.specs.declared.context_set.ContextSet.{ContextSet}
@@ -15,7 +15,7 @@ use Rattle.properties.specs.declared.property.Property.{Property}
 use Rattle.properties.specs.declared.property.Template.{Template}
 use Rattle.properties.specs.declared.property.Template.TheVariants.{Integrity, Confidentiality, Domain, Consistency}
 use Rattle.sheet.specs.declared.request.Request.{Request}
-use Rattle.sheet.specs.declared.request.Request.TheVariants.{Set, EnterGrant, StrikeGrant, EnterProperty, StrikeProperty, Open, Adopt, Withdraw, AskSettings, AskContexts, AskCapacity, AskWritten, AskPermitted}
+use Rattle.sheet.specs.declared.request.Request.TheVariants.{Set, EnterGrant, StrikeGrant, EnterProperty, StrikeProperty, Open, Adopt, Withdraw, Judge, AskSettings, AskContexts, AskCapacity, AskWritten, AskPermitted}
 
 -- an open change: the written sets as they stood at its opening, and how many settings it notes
 pub record Opened : Type 0 where
@@ -50,6 +50,10 @@ unfit_second n Confidentiality set = unfit n set
 unfit_second n Domain set = not (empty set)
 unfit_second n Consistency set = unfit n set
 
+-- the memory that is lent for judging n contexts is too short: ticks and places of 2n, steps of n
+abbrev pub short : ℕ → ℕ → ℕ → ℕ → Bool
+short n ticks places steps = nat_lt ticks (2 * n) || nat_lt places (2 * n) || nat_lt steps n
+
 -- the refusal of a call: the first of its list that applies
 abbrev pub refusal : Book → Request → Option Refusal
 refusal b (Set s t ops) =
@@ -78,6 +82,12 @@ refusal b (StrikeProperty k) = striking_refusal 64 b.properties k
 refusal b Open = first_of ((is_some b.change, OpenAlready) ∷ [])
 refusal b Adopt = first_of ((not (is_some b.change), NoneOpen) ∷ [])
 refusal b Withdraw = first_of ((not (is_some b.change), NoneOpen) ∷ [])
+refusal b (Judge k ticks places steps) =
+    first_of (
+    (not (inside 64 k), NumberOutside)
+    ∷ (not (is_some (b.properties k)), StandsNot)
+    ∷ (short b.policy.contexts ticks places steps, ShortMemory)
+    ∷ [])
 refusal b AskSettings = None
 refusal b AskContexts = None
 refusal b AskCapacity = None
@@ -116,6 +126,7 @@ accepted b (StrikeProperty k) = with_properties b (put b.properties k None)
 accepted b Open = with_change b b.policy (Some (record { copy = b.policy.written; notes = 0 }))
 accepted b Adopt = with_change b b.policy None
 accepted b Withdraw = with_change b (put_back b.change b.policy) None
+accepted b (Judge k ticks places steps) = b
 accepted b AskSettings = b
 accepted b AskContexts = b
 accepted b AskCapacity = b

@@ -2,7 +2,7 @@
 use Rattle.std.specs.Prelude.{◌≡◌, ℕ, Bool, true, false, ◌&&◌, List, [], ◌∷◌, None}
 use Rattle.sheet.specs.Book.{Book, refusal, fed, fed_all}
 use Rattle.sheet.specs.declared.request.Request.{Request}
-use Rattle.sheet.specs.declared.request.Request.TheVariants.{Set, EnterGrant, StrikeGrant, EnterProperty, StrikeProperty, Open, Adopt, Withdraw, AskSettings, AskContexts, AskCapacity, AskWritten, AskPermitted}
+use Rattle.sheet.specs.declared.request.Request.TheVariants.{Set, EnterGrant, StrikeGrant, EnterProperty, StrikeProperty, Open, Adopt, Withdraw, Judge, AskSettings, AskContexts, AskCapacity, AskWritten, AskPermitted}
 
 -- a call that neither adopts nor withdraws
 abbrev pub undeciding : Request → Bool
@@ -14,6 +14,7 @@ undeciding (StrikeProperty k) = true
 undeciding Open = true
 undeciding Adopt = false
 undeciding Withdraw = false
+undeciding (Judge k ticks places steps) = true
 undeciding AskSettings = true
 undeciding AskContexts = true
 undeciding AskCapacity = true

@@ -28,6 +28,13 @@ pub enum Request {
     Open,
     Adopt,
     Withdraw,
+    /// Of the lent memory its lengths.
+    Judge {
+        number: u16,
+        ticks: usize,
+        places: usize,
+        steps: usize,
+    },
     AskSettings,
     AskContexts,
     AskCapacity,
