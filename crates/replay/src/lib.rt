@@ -1,8 +1,11 @@
 //! Any list of requests to a sheet, each served by the sheet's own call: what the customer is promised stands on one function.
+
+#![tactic(auto)]
+
 pub mod answer;
 mod bare;
-mod foreign;
+mod deciding;
 mod judging;
-mod questions;
+pub mod outcome;
 pub mod replay;
-mod session;
+pub mod session;

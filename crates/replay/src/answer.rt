@@ -1,4 +1,5 @@
 //! What requests are answered.
+
 use access::operation_set::OperationSet;
 use access::refusal::Refusal;
 use moves::step::Step;
@@ -7,9 +8,9 @@ use moves::step::Step;
 #[derive(Drop)]
 pub enum Answer {
     Accepted,
-    Refused { why: Refusal },
+    Refused(Refusal),
     Guaranteed,
     Broken { steps: Vec<Step> },
-    Number { value: u32 },
-    Operations { set: OperationSet },
+    Number(u32),
+    Operations(OperationSet),
 }

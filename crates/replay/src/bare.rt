@@ -1,18 +1,17 @@
 //! The least policy: one context, and no room for a pair.
-ghost use Rattle.replay.specs.Bare.{bare_meaning};
-ghost use Rattle.std.proofs.Common.{rules};
+ghost use Rattle.replay.specs.Bare.{bare_meaning, bare_sound};
 
+use access::numbers::is_within;
 use access::operation_set::OperationSet;
 use access::policy::Policy;
 use access::refusal::Refusal;
 
+/// The policy of the sheet whose change a request is made with while none is held.
 #[derive(Clone, Copy)]
 pub(crate) struct Bare;
 
 impl Policy for Bare {
     ghost meaning = { λ _. bare_meaning };
-
-    ghost sound = { Prim.search rules };
 
     fn contexts(&self) -> u16 {
         1
@@ -31,15 +30,16 @@ impl Policy for Bare {
     }
 
     fn set(&mut self, subject: u16, target: u16, operations: OperationSet) -> Result<(), Refusal> {
-        if subject != 1 || target != 1 {
-            return Err(Refusal::ContextOutside);
+        if !is_within(1, subject) || !is_within(1, target) {
+            Err(Refusal::ContextOutside)
+        } else if operations.has_unknown() {
+            Err(Refusal::UnfitOperations)
+        } else if !operations.is_empty() {
+            Err(Refusal::PolicyFull)
+        } else {
+            Ok(())
         }
-        if operations.has_unknown() {
-            return Err(Refusal::UnfitOperations);
-        }
-        if !operations.is_empty() {
-            return Err(Refusal::PolicyFull);
-        }
-        Ok(())
     }
+
+    ghost sound = { λ _. bare_sound };
 }

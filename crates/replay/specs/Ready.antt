@@ -1,0 +1,31 @@
+-- A sheet with the change that its caller holds.
+use Rattle.std.specs.Prelude.{◌≡◌, Ok, Err, Result, Option, is_some}
+use Rattle.access.specs.Policy.{Meaning}
+use Rattle.sheet.specs.Book.{Book, fed}
+use Rattle.sheet.specs.Judging.{Fit}
+use Rattle.sheet.specs.Stands.{Stands}
+use Rattle.sheet.specs.declared.change.Change.{Change}
+use Rattle.sheet.specs.declared.request.Request.{Request}
+use Rattle.sheet.specs.declared.sheet.Sheet.{Sheet}
+use Rattle.replay.specs.Replies.{reply_of, Right}
+use Rattle.replay.specs.declared.answer.Answer.{Answer}
+use Rattle.replay.specs.declared.session.Session.{Session}
+
+-- the session with the change that is held replaced
+abbrev pub holding : {P : Type 0} → Session P → Option Change → Session P
+holding session held = record { sheet = session.sheet; held = held }
+
+-- a book stands on the sheet, its properties are fit, and a change is held while one is open, and only then
+pub record Ready {P : Type 0} (meaning : P → Meaning) (b : Book) (session : Session P) : Type 0 where
+  pub stands : Stands meaning b session.sheet
+  pub fit : Fit b
+  pub held : is_some session.held ≡ is_some b.change
+
+-- a request is answered as the book has it, and the book fed with the request is ready afterwards
+abbrev pub Answered : {P : Type 0} → (P → Meaning) → Book → Request → Answer → Session P → Type 0
+Answered meaning b q a session = Right b q (reply_of a) × Ready meaning (fed b q) session
+
+-- a request is served: answered, or not altering anything where memory for the answer wants
+abbrev pub Served : {P E : Type 0} → (P → Meaning) → Book → Request → Result Answer E → Session P → Type 0
+Served meaning b q (Ok a) session = Answered meaning b q a session
+Served meaning b q (Err e) session = Ready meaning b session

@@ -1,0 +1,93 @@
+-- What answers mean, and which of them a book calls for.
+use Rattle.std.specs.Prelude.{◌≡◌, ℕ, Bool, true, false, ◌↔◌, List, [], ◌∷◌, map, Some, None, Ok, Err, Option, Result, vec_items}
+use Rattle.access.specs.Refusals.{refusal_number}
+use Rattle.access.specs.declared.refusal.Refusal.{Refusal}
+use Rattle.verdicts.specs.Verdicts.{Step, Guaranteed as Holds, Broken as Breaks}
+use Rattle.moves.specs.Moved.{stepped}
+use Rattle.properties.specs.declared.property.Property.{Property}
+use Rattle.judge.specs.Judged.{property_of}
+use Rattle.sheet.specs.Book.{Book, refusal, fed}
+use Rattle.sheet.specs.Judging.{standing_grants}
+use Rattle.sheet.specs.declared.request.Request.{Request}
+use Rattle.sheet.specs.declared.request.Request.TheVariants.{Set, EnterGrant, StrikeGrant, EnterProperty, StrikeProperty, Open, Adopt, Withdraw, Judge, AskSettings, AskContexts, AskCapacity, AskWritten, AskPermitted}
+use Rattle.replay.specs.declared.answer.Answer.{Answer}
+use Rattle.replay.specs.declared.answer.Answer.TheVariants.{Accepted, Refused, Guaranteed, Broken, Number, Operations}
+
+-- an answer in numbers and values: a refusal is told by its number, a broken property by its steps
+pub data Reply : Type 0 where
+  accepted : Reply
+  refused : ℕ → Reply
+  guaranteed : Reply
+  broken : List Step → Reply
+  number : ℕ → Reply
+  operations : ℕ → Reply
+
+-- what an answer means
+abbrev pub reply_of : Answer → Reply
+reply_of Accepted = accepted
+reply_of (Refused why) = refused (refusal_number why)
+reply_of Guaranteed = guaranteed
+reply_of (Broken steps) = broken (map stepped (vec_items steps))
+reply_of (Number x) = number x
+reply_of (Operations set) = operations set.bits
+
+-- the reply shows the verdict: no legal run, of any length, realises an activity that the property forbids, or the steps show
+-- the shortest that one realises
+abbrev pub Shows : Book → Property → Reply → Type 0
+Shows b p guaranteed = Holds b.policy (standing_grants b) (property_of p)
+Shows b p (broken steps) = Breaks b.policy (standing_grants b) (property_of p) steps
+Shows b p accepted = ⊥
+Shows b p (refused x) = ⊥
+Shows b p (number x) = ⊥
+Shows b p (operations x) = ⊥
+
+-- the reply is the verdict on the property that stands, and it is guaranteed exactly where the property is
+abbrev pub Verdict : Book → Option Property → Reply → Type 0
+Verdict b None r = ⊥
+Verdict b (Some p) r = Shows b p r × ((r ≡ guaranteed) ↔ Holds b.policy (standing_grants b) (property_of p))
+
+-- what a request is replied that is accepted
+abbrev pub Tells : Book → Request → Reply → Type 0
+Tells b (Set s t ops) r = r ≡ accepted
+Tells b (EnterGrant k g) r = r ≡ accepted
+Tells b (StrikeGrant k) r = r ≡ accepted
+Tells b (EnterProperty k p) r = r ≡ accepted
+Tells b (StrikeProperty k) r = r ≡ accepted
+Tells b Open r = r ≡ accepted
+Tells b Adopt r = r ≡ accepted
+Tells b Withdraw r = r ≡ accepted
+Tells b (Judge k ticks places steps) r = Verdict b (b.properties k) r
+Tells b AskSettings r = r ≡ number b.settings
+Tells b AskContexts r = r ≡ number b.policy.contexts
+Tells b AskCapacity r = r ≡ number b.policy.capacity
+Tells b (AskWritten s t) r = r ≡ operations (b.policy.written s t)
+Tells b (AskPermitted s t) r = r ≡ operations (b.policy.permitted s t)
+
+-- the reply to a request that is refused, or accepted
+abbrev pub RightWhere : Option Refusal → Book → Request → Reply → Type 0
+RightWhere (Some why) b q r = r ≡ refused (refusal_number why)
+RightWhere None b q r = Tells b q r
+
+-- the reply to a request is the book's
+abbrev pub Right : Book → Request → Reply → Type 0
+Right b q r = RightWhere (refusal b q) b q r
+
+-- the replies to requests one after another: each is that of the book fed with the requests before it
+pub data Replies : Book → List Request → List Reply → Type 0 where
+  end : {b : Book} → Replies b [] []
+  then : {b : Book} {q : Request} {r : Reply} {qs : List Request} {rs : List Reply} → Right b q r → Replies (fed b q) qs rs → Replies b (q ∷ qs) (r ∷ rs)
+
+-- what a call is answered that tells nothing but its refusal
+abbrev pub replied : Option Refusal → Answer
+replied None = Accepted
+replied (Some why) = Refused why
+
+-- the request that ends a change, its settings kept or not
+abbrev pub deciding : Bool → Request
+deciding true = Adopt
+deciding false = Withdraw
+
+-- the same of the result of such a call
+abbrev pub plainly : Result (Unit {0}) Refusal → Answer
+plainly (Ok x) = Accepted
+plainly (Err why) = Refused why
