@@ -1,2 +1,3 @@
 pub mod Judgings
 pub mod Serving
+pub mod Replaying

@@ -1,5 +1,5 @@
 -- What the customer is promised of any list of requests, over every policy.
-use Rattle.std.specs.Prelude.{◌≡◌, ℕ, true, List, [], ◌∷◌, ◌++◌, map, length, None, Ok, vec_items}
+use Rattle.std.specs.Prelude.{◌≡◌, ℕ, true, List, [], ◌∷◌, ◌++◌, map, None, Ok, Result}
 use Rattle.access.specs.Policy.{Meaning}
 use Rattle.sheet.specs.Book.{Book, start, refusal, fed_all}
 use Rattle.sheet.specs.Stands.{shown}
@@ -8,20 +8,25 @@ use Rattle.sheet.specs.declared.request.Request.{Request}
 use Rattle.sheet.specs.declared.request.Request.TheVariants.{Open, Withdraw}
 use Rattle.replay.specs.Replies.{reply_of, Replies}
 use Rattle.replay.specs.Ready.{Ready}
+use Rattle.replay.specs.declared.answer.Answer.{Answer}
 use Rattle.replay.specs.declared.outcome.Outcome.{Outcome}
+use Rattle.replay.specs.declared.session.Session.{Session}
 
--- of a list of requests to a sheet that is laid out with a policy: those that were answered, and what is left then
+-- the requests in front are answered in turn, each as the book has it that was fed with those before, and the book fed with them
+-- stands at the end; they are all the requests, unless memory for an answer wanted
+pub record InTurn {P E : Type 0} (meaning : P → Meaning) (b : Book) (requests : List Request) (session : Session P) (answers : List Answer) (served : Result (Unit {0}) E) : Type 0 where
+  pub front : List Request
+  pub rest : List Request
+  pub parted : requests ≡ front ++ rest
+  pub all : served ≡ Ok tt → rest ≡ []
+  pub replies : Replies b front (map reply_of answers)
+  pub ready : Ready meaning (fed_all b front) session
+
+-- a list of requests to a sheet that is laid out with a policy
 pub record Promise {P : Type 0} (meaning : P → Meaning) (policy : P) (requests : List Request) (outcome : Outcome P) : Type 0 where
-  -- the requests that were answered: all, unless memory for an answer wanted
-  pub answered : List Request
-  pub unanswered : List Request
-  pub parted : requests ≡ answered ++ unanswered
-  pub all : outcome.served ≡ Ok tt → unanswered ≡ []
-  -- each answer is that of the book fed with the requests before it
-  pub replies : Replies (start (meaning policy)) answered (map reply_of (vec_items outcome.answers))
-  -- the book fed with all that were answered stands on the sheet
-  pub ready : Ready meaning (fed_all (start (meaning policy)) answered) outcome.session
-  -- where a change was opened and is withdrawn at the end, whatever was called between, every written set is back
-  pub restored : (before between : List Request) → answered ≡ before ++ (Open ∷ (between ++ (Withdraw ∷ [])))
+  pub in_turn : InTurn meaning (start (meaning policy)) requests outcome.session outcome.answers.items outcome.served
+  -- where a change is opened, anything is called but adopting and withdrawing, and the change is withdrawn at the end, every pair
+  -- of the sheet's policy has the written set that it had at the opening
+  pub restored : (before between : List Request) → in_turn.front ≡ before ++ (Open ∷ (between ++ (Withdraw ∷ [])))
       → refusal (fed_all (start (meaning policy)) before) Open ≡ None → all_undeciding between ≡ true
       → (s t : ℕ) → (shown meaning outcome.session.sheet).policy.written s t ≡ (fed_all (start (meaning policy)) before).policy.written s t

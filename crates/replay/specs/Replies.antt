@@ -74,8 +74,8 @@ Right b q r = RightWhere (refusal b q) b q r
 
 -- the replies to requests one after another: each is that of the book fed with the requests before it
 pub data Replies : Book → List Request → List Reply → Type 0 where
-  end : {b : Book} → Replies b [] []
-  then : {b : Book} {q : Request} {r : Reply} {qs : List Request} {rs : List Reply} → Right b q r → Replies (fed b q) qs rs → Replies b (q ∷ qs) (r ∷ rs)
+  none : {b : Book} → Replies b [] []
+  next : {b : Book} {q : Request} {r : Reply} {qs : List Request} {rs : List Reply} → Right b q r → Replies (fed b q) qs rs → Replies b (q ∷ qs) (r ∷ rs)
 
 -- what a call is answered that tells nothing but its refusal
 abbrev pub replied : Option Refusal → Answer

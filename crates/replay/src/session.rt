@@ -37,36 +37,36 @@ impl<P: Policy> Session<P> {
         ensures { (b : Book) → Ready P.Policy.meaning b self.old → Served P.Policy.meaning b request result self.new }
     {
         let sheet = &mut self.sheet;
-        Ok(match request {
+        match request {
             Request::Set {
                 subject,
                 target,
                 operations,
-            } => told(sheet.set(subject, target, operations)),
-            Request::EnterGrant { number, grant } => told(sheet.enter_grant(number, grant)),
-            Request::StrikeGrant { number } => told(sheet.strike_grant(number)),
+            } => Ok(told(sheet.set(subject, target, operations))),
+            Request::EnterGrant { number, grant } => Ok(told(sheet.enter_grant(number, grant))),
+            Request::StrikeGrant { number } => Ok(told(sheet.strike_grant(number))),
             Request::EnterProperty { number, property } => {
-                told(sheet.enter_property(number, property))
+                Ok(told(sheet.enter_property(number, property)))
             }
-            Request::StrikeProperty { number } => told(sheet.strike_property(number)),
-            Request::Open => self.open(),
-            Request::Adopt => self.end(true),
-            Request::Withdraw => self.end(false),
+            Request::StrikeProperty { number } => Ok(told(sheet.strike_property(number))),
+            Request::Open => Ok(self.open()),
+            Request::Adopt => Ok(self.end(true)),
+            Request::Withdraw => Ok(self.end(false)),
             Request::Judge {
                 number,
                 ticks,
                 places,
                 steps,
-            } => judge(sheet, alloc, number, ticks, places, steps)?,
-            Request::AskSettings => Answer::Number(sheet.settings()),
-            Request::AskContexts => Answer::Number(u32::from(sheet.contexts())),
-            Request::AskCapacity => Answer::Number(sheet.capacity()),
+            } => judge(sheet, alloc, number, ticks, places, steps),
+            Request::AskSettings => Ok(Answer::Number(sheet.settings())),
+            Request::AskContexts => Ok(Answer::Number(u32::from(sheet.contexts()))),
+            Request::AskCapacity => Ok(Answer::Number(sheet.capacity())),
             Request::AskWritten { subject, target } => {
-                Answer::Operations(sheet.written(subject, target))
+                Ok(Answer::Operations(sheet.written(subject, target)))
             }
             Request::AskPermitted { subject, target } => {
-                Answer::Operations(sheet.permitted(subject, target))
+                Ok(Answer::Operations(sheet.permitted(subject, target)))
             }
-        })
+        }
     }
 }

@@ -1,10 +1,23 @@
-use Rattle.std.proofs.Common.{rules, ◌≡◌, ℕ, ◌+◌, ◌-◌, ◌*◌, ◌<◌, ◌≤◌, length, ◌/◌, ◌%◌, Bool, true, false, nat_eq, nat_lt, List, [], ◌∷◌, ◌++◌, slice_index_or, slice_set, bit_and, bit_or, Fits, w8, w32, w64, Bor, MutBor}
-use Rattle.sheet.specs.Book.{Book}
-use Rattle.sheet.specs.Stands.{shown}
-use Rattle.replay.specs.Ready.{Ready, Served}
-use Rattle.replay.specs.Replies.{plainly}
+use Rattle.std.proofs.Common.{refl, sym, ◌∙◌}
+use Rattle.sheet.specs.declared.request.Request.TheVariants.{EnterProperty, StrikeProperty}
+use Rattle.replay.proofs.Serving.{plain_call, served, change_stays, judged}
 use Rattle.replay.proofs.session.Session.serve.Goals as goal
 
--- src/session.rt:35:5
-pub returns : goal.returns
-returns g c = ?
+pub returns-in-EnterProperty : goal.returns-in-EnterProperty
+returns-in-EnterProperty g c b ready =
+    let i = c.in-EnterProperty in
+    let q = EnterProperty i.number i.property in
+    let serves = plain_call g.P.Policy.meaning q c.args.self.now.sheet c.enter_property.new.self c.enter_property.result c.enter_property.ensures in
+    rw (i.is, c.told-in-EnterProperty.ensures) (served g.P.Policy.meaning b q c.args.self.now ready refl c.enter_property.new.self _ serves c.args.self.now.held (ready.held ∙ sym (change_stays b q refl)))
+
+pub returns-in-StrikeProperty : goal.returns-in-StrikeProperty
+returns-in-StrikeProperty g c b ready =
+    let i = c.in-StrikeProperty in
+    let q = StrikeProperty i.number in
+    let serves = plain_call g.P.Policy.meaning q c.args.self.now.sheet c.strike_property.new.self c.strike_property.result c.strike_property.ensures in
+    rw (i.is, c.told-in-StrikeProperty.ensures) (served g.P.Policy.meaning b q c.args.self.now ready refl c.strike_property.new.self _ serves c.args.self.now.held (ready.held ∙ sym (change_stays b q refl)))
+
+pub returns-in-Judge : goal.returns-in-Judge
+returns-in-Judge g c b ready =
+    let i = c.in-Judge in
+    rw i.is (judged g.P.Policy.meaning b i.number i.ticks i.places i.steps c.args.self.now c.judge.result (c.judge.ensures b ready.stands ready.fit) ready)
