@@ -1,5 +1,5 @@
 -- What judging a property by its number is replied.
-use Rattle.std.proofs.Common.{◌≡◌, ℕ, Bool, true, false, not, ◌↔◌, List, [], ◌∷◌, map, length, take, is_some, Some, None, Ok, Err, Option, Result, refl, sym, ap, ◌∙◌, subst, arith}
+use Rattle.std.proofs.Common.{◌≡◌, ℕ, Bool, true, false, not, ◌↔◌, List, [], ◌∷◌, map, length, take, is_some, Some, None, Ok, Err, Option, Result, refl, sym, subst, arith}
 use Rattle.access.specs.Contexts.{inside}
 use Rattle.access.specs.Refusals.{first_of, refusal_number}
 use Rattle.access.specs.declared.refusal.Refusal.{Refusal}
@@ -12,11 +12,11 @@ use Rattle.properties.specs.declared.property.Property.{Property}
 use Rattle.judge.specs.Judged.{property_of}
 use Rattle.judge.specs.declared.verdict.Verdict.{Verdict}
 use Rattle.judge.specs.declared.verdict.Verdict.TheVariants.{Guaranteed, Broken}
-use Rattle.sheet.specs.Book.{Book, short, refusal}
+use Rattle.sheet.specs.Book.{Book, short}
 use Rattle.sheet.specs.Judging.{fits, Fit, standing_grants, VerdictOn, Judges}
 use Rattle.sheet.specs.declared.request.Request.{Request}
 use Rattle.sheet.specs.declared.request.Request.TheVariants.{Judge}
-use Rattle.replay.specs.Replies.{Reply, accepted, refused, guaranteed, broken, number, operations, Shows, Verdict as VerdictIs, Right, RightWhere}
+use Rattle.replay.specs.Replies.{Reply, refused, guaranteed, broken, Shows, Verdict as VerdictIs, Right, RightWhere}
 
 -- the reply that tells a judging's result
 abbrev pub reply_to : List Step → Result Verdict Refusal → Reply

@@ -1,13 +1,18 @@
 -- Requests answered in turn: one more, and what holds when all are, or memory wants.
-use Rattle.std.proofs.Common.{◌≡◌, ℕ, ◌+◌, ◌<◌, ◌≤◌, List, [], ◌∷◌, ◌++◌, map, length, take, drop, get_or, Ok, Err, IsOk, IsErr, is_ok, if◌then◌else◌, Result, refl, sym, ap, ◌∙◌, subst, arith}
-use Rattle.std.proofs.lemmas.List.{take_more, take-append-drop, map-append, length-append}
+use Rattle.std.proofs.Common.{◌≡◌, ℕ, ◌+◌, ◌<◌, true, List, [], ◌∷◌, ◌++◌, map, length, take, drop, get_or, None, Ok, Err, IsOk, IsErr, is_ok, if◌then◌else◌, Result, refl, sym, ap, ◌∙◌, subst, arith}
+use Rattle.std.proofs.lemmas.List.{take_more, drop_more, take-append-drop, map-append, length-append}
 use Rattle.access.specs.Policy.{Meaning}
-use Rattle.sheet.specs.Book.{Book, fed, fed_all}
-use Rattle.sheet.specs.Stands.{shown}
+use Rattle.sheet.specs.Book.{Book, start, refusal, fed, fed_all}
+use Rattle.sheet.specs.Stands.{shown, Stands}
+use Rattle.sheet.specs.Withdrawal.{all_undeciding}
+use Rattle.sheet.proofs.Fitness.{fitness_stays}
+use Rattle.sheet.proofs.WithdrawalLaw.{withdrawal_restores}
 use Rattle.sheet.specs.declared.request.Request.{Request}
+use Rattle.sheet.specs.declared.request.Request.TheVariants.{Open, Withdraw}
+use Rattle.sheet.specs.declared.sheet.Sheet.{Sheet}
 use Rattle.replay.specs.Replies.{Reply, reply_of, Right, Replies, none, next}
-use Rattle.replay.specs.Ready.{Ready, Answered, Served}
-use Rattle.replay.specs.Promise.{InTurn}
+use Rattle.replay.specs.Ready.{judges, Ready, Answered}
+use Rattle.replay.specs.Promise.{MayWant, InTurn}
 use Rattle.replay.specs.declared.answer.Answer.{Answer}
 use Rattle.replay.specs.declared.session.Session.{Session}
 
@@ -42,9 +47,9 @@ module _ {P : Type 0} (meaning : P → Meaning) (b : Book) (requests : List Requ
       }
 
   -- memory for an answer wants, or all are answered
-  pub stopped : {E : Type 0} (i : ℕ) (session : Session P) (answers : List Answer) (r : Result (Unit {0}) E) → (r ≡ Ok tt → drop i requests ≡ []) → Replies b (take i requests) (map reply_of answers) → Ready meaning (fed_all b (take i requests)) session
+  pub stopped : {E : Type 0} (i : ℕ) (session : Session P) (answers : List Answer) (r : Result (Unit {0}) E) → (r ≡ Ok tt → drop i requests ≡ []) → (IsErr r → MayWant (take i requests) (drop i requests)) → Replies b (take i requests) (map reply_of answers) → Ready meaning (fed_all b (take i requests)) session
       → InTurn meaning b requests session answers r
-  stopped i session answers r all replies ready = record { front = take i requests; rest = drop i requests; parted = sym (take-append-drop i requests); all = all; replies = replies; ready = ready }
+  stopped i session answers r all wanted replies ready = record { front = take i requests; rest = drop i requests; parted = sym (take-append-drop i requests); all = all; wanted = wanted; replies = replies; ready = ready }
 
 -- an error is not a success
 pub not_ok : {E A : Type 0} (r : Result (Unit {0}) E) → IsErr r → r ≡ Ok tt → A
@@ -55,3 +60,27 @@ not_ok (Err x) h e = absurd (grind arith)
 pub on_ok : {X E A : Type 0} (r : Result X E) (x y : A) → IsOk r → (if is_ok r then x else y) ≡ x
 on_ok (Ok x) a b h = refl
 on_ok (Err x) a b h = absurd (grind arith)
+
+fed_append : (b : Book) (xs ys : List Request) → fed_all b (xs ++ ys) ≡ fed_all (fed_all b xs) ys
+fed_append b [] ys = refl
+fed_append b (x ∷ xs) ys = fed_append (fed b x) xs ys
+
+-- where the requests end by withdrawing, every written set is back
+pub restored : {P : Type 0} (meaning : P → Meaning) (b : Book) (front : List Request) (session : Session P) → Ready meaning (fed_all b front) session → (before between : List Request) → front ≡ before ++ (Open ∷ (between ++ (Withdraw ∷ [])))
+    → refusal (fed_all b before) Open ≡ None → all_undeciding between ≡ true → (s t : ℕ) → (shown meaning session.sheet).policy.written s t ≡ (fed_all b before).policy.written s t
+restored meaning b front session ready before between parted accepted undeciding s t =
+    let opening = fed_all b before in
+    let on = ready.stands.shows in
+    let back : (fed_all (fed_all (fed opening Open) between) (Withdraw ∷ [])).policy.written s t ≡ opening.policy.written s t = (withdrawal_restores opening between accepted undeciding).1 s t in
+    ap (λ (x : Book). x.policy.written s t) (sym on ∙ ap (fed_all b) parted ∙ fed_append b before _ ∙ fed_append (fed opening Open) between _) ∙ back
+
+pub ready_at_start : {P : Type 0} (meaning : P → Meaning) (m : Meaning) (sheet : Sheet P) → Stands meaning (start m) sheet → Ready meaning (start m) (record { sheet = sheet; held = None })
+ready_at_start meaning m sheet stands = record { stands = stands; fit = fitness_stays.0 m; held = refl }
+
+-- what may want is the memory for a judging that is next
+pub may_want : (requests : List Request) (i : ℕ) (d : Request) → i < length requests → judges (get_or requests i d) ≡ true → MayWant (take i requests) (drop i requests)
+may_want requests i d lt is = subst (MayWant (take i requests)) (sym (drop_more requests i d lt)) (any (take i requests))
+  where
+    any : (front : List Request) → MayWant front (get_or requests i d ∷ drop (i + 1) requests)
+    any [] = tt
+    any (q ∷ qs) = is

@@ -1,12 +1,12 @@
 -- From a call that serves a request to an answer that is the book's.
-use Rattle.std.proofs.Common.{◌≡◌, ℕ, Bool, true, false, not, ◌∷◌, [], is_some, Some, None, Ok, Err, IfOk, Option, Result, refl, sym, ap, ◌∙◌, subst, arith}
+use Rattle.std.proofs.Common.{◌≡◌, ℕ, Bool, true, false, ◌∷◌, [], is_some, Some, None, Ok, Err, IfOk, Option, Result, refl, sym, ap, ◌∙◌, subst, arith}
 use Rattle.access.specs.Policy.{Meaning}
 use Rattle.access.specs.Refusals.{answer, first_of}
 use Rattle.access.specs.declared.refusal.Refusal.{Refusal}
 use Rattle.access.specs.declared.refusal.Refusal.TheVariants.{OpenAlready}
 use Rattle.access.proofs.Tests.{differ}
 use Rattle.sheet.specs.Book.{Opened, Book, refusal, accepted as after_it, fed, one_more}
-use Rattle.sheet.specs.Stands.{Stands, Serves, handed, spent}
+use Rattle.sheet.specs.Stands.{Serves, handed, spent}
 use Rattle.sheet.specs.declared.change.Change.{Change}
 use Rattle.sheet.specs.declared.change.Undecided.{Undecided}
 use Rattle.sheet.specs.declared.request.Request.{Request}
@@ -14,7 +14,7 @@ use Rattle.sheet.specs.declared.request.Request.TheVariants.{Open, Judge}
 use Rattle.sheet.specs.declared.sheet.Sheet.{Sheet}
 use Rattle.sheet.proofs.Accepted.{after}
 use Rattle.sheet.proofs.Fitness.{fitness_stays}
-use Rattle.replay.specs.Replies.{Reply, accepted, reply_of, Tells, Right, RightWhere, replied, plainly, deciding}
+use Rattle.replay.specs.Replies.{accepted, reply_of, Tells, Right, RightWhere, replied, plainly, deciding}
 use Rattle.replay.specs.Ready.{Ready, Answered, Served}
 use Rattle.replay.specs.declared.answer.Answer.{Answer}
 use Rattle.replay.specs.declared.answer.Answer.TheVariants.{Accepted, Refused}
@@ -96,4 +96,4 @@ none_held meaning b session change ready e = none session.held (ready.held ∙ f
 pub judged : {P E : Type 0} (meaning : P → Meaning) (b : Book) (k ticks places steps : ℕ) (session : Session P) (r : Result Answer E) → IfOk r (λ a. Right b (Judge k ticks places steps) (reply_of a)) → Ready meaning b session
     → Served meaning b (Judge k ticks places steps) r session
 judged meaning b k ticks places steps session (Ok a) right ready = (right, after (λ x. Ready meaning x session) b (Judge k ticks places steps) (λ _. ready) ready)
-judged meaning b k ticks places steps session (Err e) right ready = ready
+judged meaning b k ticks places steps session (Err e) right ready = (refl, ready)

@@ -1,5 +1,5 @@
 -- What the least policy means.
-use Rattle.std.specs.Prelude.{◌≡◌, ℕ, ◌≤◌, true, false, ◌==◌, Some}
+use Rattle.std.specs.Prelude.{◌≡◌, ℕ, true, false, ◌==◌, Some}
 use Rattle.std.proofs.Common.{refl, arith}
 use Rattle.access.specs.Policy.{Meaning}
 use Rattle.access.specs.Operations.{unknown}

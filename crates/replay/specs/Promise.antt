@@ -1,5 +1,5 @@
 -- What the customer is promised of any list of requests, over every policy.
-use Rattle.std.specs.Prelude.{◌≡◌, ℕ, true, List, [], ◌∷◌, ◌++◌, map, None, Ok, Result}
+use Rattle.std.specs.Prelude.{◌≡◌, ℕ, true, List, [], ◌∷◌, ◌++◌, map, None, Ok, Result, IsErr}
 use Rattle.access.specs.Policy.{Meaning}
 use Rattle.sheet.specs.Book.{Book, start, refusal, fed_all}
 use Rattle.sheet.specs.Stands.{shown}
@@ -7,18 +7,25 @@ use Rattle.sheet.specs.Withdrawal.{all_undeciding}
 use Rattle.sheet.specs.declared.request.Request.{Request}
 use Rattle.sheet.specs.declared.request.Request.TheVariants.{Open, Withdraw}
 use Rattle.replay.specs.Replies.{reply_of, Replies}
-use Rattle.replay.specs.Ready.{Ready}
+use Rattle.replay.specs.Ready.{judges, Ready}
 use Rattle.replay.specs.declared.answer.Answer.{Answer}
 use Rattle.replay.specs.declared.outcome.Outcome.{Outcome}
 use Rattle.replay.specs.declared.session.Session.{Session}
 
+-- memory may want before the first request is served, and at one to judge
+abbrev pub MayWant : List Request → List Request → Type 0
+MayWant [] rest = Unit {0}
+MayWant (q ∷ qs) [] = ⊥
+MayWant (q ∷ qs) (r ∷ rs) = judges r ≡ true
+
 -- the requests in front are answered in turn, each as the book has it that was fed with those before, and the book fed with them
--- stands at the end; they are all the requests, unless memory for an answer wanted
+-- stands at the end; they are all the requests, unless memory wanted
 pub record InTurn {P E : Type 0} (meaning : P → Meaning) (b : Book) (requests : List Request) (session : Session P) (answers : List Answer) (served : Result (Unit {0}) E) : Type 0 where
   pub front : List Request
   pub rest : List Request
   pub parted : requests ≡ front ++ rest
   pub all : served ≡ Ok tt → rest ≡ []
+  pub wanted : IsErr served → MayWant front rest
   pub replies : Replies b front (map reply_of answers)
   pub ready : Ready meaning (fed_all b front) session
 

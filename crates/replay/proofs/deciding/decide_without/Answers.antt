@@ -1,5 +1,4 @@
-use Rattle.sheet.specs.Stands.{Serves}
-use Rattle.replay.specs.Replies.{replied, deciding}
+use Rattle.replay.specs.Replies.{deciding}
 use Rattle.replay.proofs.Serving.{deciding_call}
 use Rattle.replay.proofs.deciding.decide_without.Goals as goal
 

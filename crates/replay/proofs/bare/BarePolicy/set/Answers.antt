@@ -1,7 +1,5 @@
-use Rattle.std.proofs.Common.{refl, sym, ap, ◌∙◌, rules}
-use Rattle.access.specs.Refusals.{answer, when_accepted}
-use Rattle.access.specs.Setting.{with_set}
-use Rattle.replay.specs.Bare.{bare_meaning, full}
+use Rattle.std.proofs.Common.{rules}
+use Rattle.replay.specs.Bare.{full}
 use Rattle.replay.proofs.bare.BarePolicy.set.Goals as goal
 
 pub returns-then-not-is_empty-clause-told : goal.returns-then-not-is_empty-clause-told
