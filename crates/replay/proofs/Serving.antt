@@ -1,16 +1,16 @@
 -- From a call that serves a request to an answer that is the book's.
-use Rattle.std.proofs.Common.{◌≡◌, ℕ, Bool, true, false, ◌∷◌, [], is_some, Some, None, Ok, Err, IfOk, Option, Result, refl, sym, ap, ◌∙◌, subst, arith}
+use Rattle.std.proofs.Common.{◌≡◌, not, ℕ, Bool, true, false, ◌∷◌, [], is_some, Some, None, Ok, Err, IfOk, Option, Result, refl, sym, ap, ◌∙◌, subst, arith}
 use Rattle.access.specs.Policy.{Meaning}
 use Rattle.access.specs.Refusals.{answer, first_of}
 use Rattle.access.specs.declared.refusal.Refusal.{Refusal}
-use Rattle.access.specs.declared.refusal.Refusal.TheVariants.{OpenAlready}
+use Rattle.access.specs.declared.refusal.Refusal.TheVariants.{OpenAlready, NoneOpen}
 use Rattle.access.proofs.Tests.{differ}
 use Rattle.sheet.specs.Book.{Opened, Book, refusal, accepted as after_it, fed, one_more}
 use Rattle.sheet.specs.Stands.{Serves, handed, spent}
 use Rattle.sheet.specs.declared.change.Change.{Change}
 use Rattle.sheet.specs.declared.change.Undecided.{Undecided}
 use Rattle.sheet.specs.declared.request.Request.{Request}
-use Rattle.sheet.specs.declared.request.Request.TheVariants.{Open, Judge}
+use Rattle.sheet.specs.declared.request.Request.TheVariants.{Open, Withdraw, Judge}
 use Rattle.sheet.specs.declared.sheet.Sheet.{Sheet}
 use Rattle.sheet.proofs.Accepted.{after}
 use Rattle.sheet.proofs.Fitness.{fitness_stays}
@@ -97,3 +97,11 @@ pub judged : {P E : Type 0} (meaning : P → Meaning) (b : Book) (k ticks places
     → Served meaning b (Judge k ticks places steps) r session
 judged meaning b k ticks places steps session (Ok a) right ready = (right, after (λ x. Ready meaning x session) b (Judge k ticks places steps) (λ _. ready) ready)
 judged meaning b k ticks places steps session (Err e) right ready = (refl, ready)
+
+-- while a change is held, withdrawing is not refused
+pub not_refused : {P : Type 0} (meaning : P → Meaning) (b : Book) (session : Session P) (change : Change) (u : Undecided) → Ready meaning b session → session.held ≡ Some change → Err u ≡ spent change (refusal b Withdraw) → ⊥
+not_refused meaning b session change u ready held refused = go (is_some b.change) (sym ready.held ∙ ap is_some held) refused
+  where
+    go : (x : Bool) → x ≡ true → Err u ≡ spent change (first_of ((not x, NoneOpen) ∷ [])) → ⊥
+    go true e is = absurd (grind arith)
+    go false e is = differ (sym e)

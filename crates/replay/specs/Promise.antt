@@ -9,7 +9,6 @@ use Rattle.sheet.specs.declared.request.Request.TheVariants.{Open, Withdraw}
 use Rattle.replay.specs.Replies.{reply_of, Replies}
 use Rattle.replay.specs.Ready.{judges, Ready}
 use Rattle.replay.specs.declared.answer.Answer.{Answer}
-use Rattle.replay.specs.declared.outcome.Outcome.{Outcome}
 use Rattle.replay.specs.declared.session.Session.{Session}
 
 -- memory may want before the first request is served, and at one to judge
@@ -30,10 +29,10 @@ pub record InTurn {P E : Type 0} (meaning : P → Meaning) (b : Book) (requests 
   pub ready : Ready meaning (fed_all b front) session
 
 -- a list of requests to a sheet that is laid out with a policy
-pub record Promise {P : Type 0} (meaning : P → Meaning) (policy : P) (requests : List Request) (outcome : Outcome P) : Type 0 where
-  pub in_turn : InTurn meaning (start (meaning policy)) requests outcome.session outcome.answers.items outcome.served
+pub record Promise {P E : Type 0} (meaning : P → Meaning) (policy : P) (requests : List Request) (session : Session P) (answers : List Answer) (served : Result (Unit {0}) E) : Type 0 where
+  pub in_turn : InTurn meaning (start (meaning policy)) requests session answers served
   -- where a change is opened, anything is called but adopting and withdrawing, and the change is withdrawn at the end, every pair
   -- of the sheet's policy has the written set that it had at the opening
   pub restored : (before between : List Request) → in_turn.front ≡ before ++ (Open ∷ (between ++ (Withdraw ∷ [])))
       → refusal (fed_all (start (meaning policy)) before) Open ≡ None → all_undeciding between ≡ true
-      → (s t : ℕ) → (shown meaning outcome.session.sheet).policy.written s t ≡ (fed_all (start (meaning policy)) before).policy.written s t
+      → (s t : ℕ) → (shown meaning session.sheet).policy.written s t ≡ (fed_all (start (meaning policy)) before).policy.written s t

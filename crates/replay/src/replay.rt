@@ -37,7 +37,7 @@ impl<P: Policy> Session<P> {
 /// Lays out a sheet with a policy, serves requests on it, each by the sheet's own call, and hands back the sheet, the change that is
 /// still held, and the answers.
 pub fn replay<P: Policy>(alloc: Global, policy: P, requests: &[Request]) -> Outcome<P>
-    ensures { Promise P.Policy.meaning policy requests.now result }
+    ensures { Promise P.Policy.meaning policy requests.now result.session result.answers.items result.served }
 {
     let mut session = Session {
         sheet: Sheet::lay_out(policy),

@@ -1,4 +1,4 @@
-use Rattle.std.proofs.Common.{[], ◌∷◌, ◌++◌, Ok, Result, ◌∙◌, sym, arith}
+use Rattle.std.proofs.Common.{◌≡◌, [], ◌∷◌, ◌++◌, Ok, Result, ◌∙◌, sym, arith}
 use Rattle.std.specs.declared.alloc.AllocError.{AllocError}
 use Rattle.std.proofs.lemmas.List.{drop_all}
 use Rattle.sheet.specs.Stands.{shown}
@@ -33,8 +33,9 @@ loop-request-preserved g c =
     let going = c.loop-request.invariant.0 in
     let room = c.loop-request.invariant.1 in
     let lt = c.loop-request-test.true in
-    let ok = c.push.ensures.succeeds (let a = c.loop-request.answers.ok in let n = going.count in omega arith) in (
-      one_more g.P.Policy.meaning (shown g.P.Policy.meaning c.args.self.now.sheet) c.args.requests.now c.loop-request.request-index _ c.loop-request.self c.serve.new.self c.loop-request.answers.items c.push.new.self.items c.in_ok-answer.answer lt going (c.in_ok-answer.ensures _ going.ready) (c.push.ensures.items ∙ on_ok c.push.result (c.loop-request.answers.items ++ c.in_ok-answer.answer ∷ []) _ ok),
+    let ok = c.push.ensures.succeeds (let a = c.loop-request.answers.ok in let n = going.count in omega arith) in
+    let pushed : c.push.new.self.items ≡ c.loop-request.answers.items ++ c.in_ok-answer.answer ∷ [] = c.push.ensures.items ∙ on_ok c.push.result (c.loop-request.answers.items ++ c.in_ok-answer.answer ∷ []) _ ok in (
+      one_more g.P.Policy.meaning (shown g.P.Policy.meaning c.args.self.now.sheet) c.args.requests.now c.loop-request.request-index _ c.loop-request.self c.serve.new.self c.loop-request.answers.items c.push.new.self.items c.in_ok-answer.answer lt going (c.in_ok-answer.ensures _ going.ready) pushed,
       let h = c.push.ensures.capacity in omega arith,
     )
 
