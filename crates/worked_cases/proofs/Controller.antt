@@ -1,6 +1,8 @@
 -- The worked cases, each settled by computing: the forbidden activity where there is one, and labels that show how far every
 -- forbidden activity has to go.
-use Rattle.std.proofs.Common.{[], ◌∷◌, refl, arith}
+use Rattle.std.proofs.Common.{◌≡◌, ℕ, Bool, true, false, not, ◌&&◌, ◌||◌, eqb, ltb, [], ◌∷◌, sym, refl, ap, ap₂, ◌∙◌, arith}
+use Rattle.access.specs.Contexts.{inside, member, some_to, meet}
+use Rattle.access.specs.declared.context_set.ContextSet.{ContextSet}
 use Rattle.access.specs.declared.operation.Operation.TheVariants.{Read, Write, Append, Become}
 use Rattle.access.specs.Policy.{Meaning}
 use Rattle.access.specs.Sound.{Sound, row, pairs}
@@ -8,6 +10,12 @@ use Rattle.verdicts.specs.Activities.{transition, transfer, contact, same, next}
 use Rattle.verdicts.specs.Verdicts.{Guaranteed, Broken}
 use Rattle.verdicts.proofs.Inside.{Inside, sound_inside}
 use Rattle.verdicts.proofs.Decided.{direct_from}
+use Rattle.access.proofs.ContextLaws.{above_zero}
+use Rattle.properties.specs.declared.property.Template.{Template}
+use Rattle.properties.specs.declared.property.Template.TheVariants.{Integrity, Confidentiality, Domain, Consistency}
+use Rattle.sheet.specs.Book.{start, unfit, unfit_second, refusal}
+use Rattle.sheet.specs.declared.request.Request.TheVariants.{EnterProperty}
+use Rattle.worked_cases.specs.Entered.{Only, Meets}
 use Rattle.worked_cases.specs.Vectors.{flat, raised, step}
 use Rattle.worked_cases.specs.Controller.{keypad, maint, opening, log, controller, controller_vectors, maintenance, keypad_off_opening, opening_from_keypad, clock_and_opening, maint_on_keypad, keypad_from_maint, detour, detour_vectors, one_off_four, WorkedCases}
 use Rattle.worked_cases.proofs.Bounds.{labels, integrity_bound, confidentiality_bound, consistency_bound}
@@ -81,6 +89,29 @@ three =
     tt
     (integrity_bound detour [] (sound_inside detour detour_is_sound) (1 ∷ []) (4 ∷ []) 1 3 (λ a. labels (9 ∷ 0 ∷ 2 ∷ 1 ∷ 3 ∷ []) (9 ∷ 0 ∷ 1 ∷ [])) tt)
 
+-- two tests that answer alike
+some_same : (p q : ℕ → Bool) → ((d : ℕ) → p d ≡ q d) → some_to 256 p ≡ some_to 256 q
+some_same p q h = sym (above_zero 256 p p (λ d. refl)) ∙ above_zero 256 p q h
+
+-- a set that has context 1 alone is fit in a policy of five contexts
+only_fit : (set : ContextSet) → Only 1 set → unfit 5 set ≡ false
+unfolding some_to
+only_fit set only = ap₂ (λ a b. a || not b) (some_same (λ c. ltb 5 c && member set c) (λ c. ltb 5 c && eqb c 1) (λ d. ap (λ b. ltb 5 d && b) (only d))) (some_same (member set) (λ c. eqb c 1) only)
+
+-- two such sets share it
+only_meet : (A B : ContextSet) → Only 1 A → Only 1 B → meet A B ≡ true
+unfolding some_to
+only_meet A B a b = some_same (λ c. member A c && member B c) (λ c. eqb c 1 && eqb c 1) (λ d. ap₂ (λ x y. x && y) (a d) (b d))
+
+shared : (k : ℕ) (t : Template) (A B : ContextSet) → inside 64 k ≡ true → (t ≡ Domain → ⊥) → Only 1 A → Only 1 B → Meets 7 (refusal (start level) (EnterProperty k (record { template = t; first = A; second = B })))
+shared k t A B i not_domain a b = rw i (rw (only_fit A a) (rw (second t not_domain) (rw (only_meet A B a b) refl)))
+  where
+    second : (t : Template) → (t ≡ Domain → ⊥) → unfit_second 5 t B ≡ false
+    second Integrity n = only_fit B b
+    second Confidentiality n = only_fit B b
+    second Domain n = absurd (n refl)
+    second Consistency n = only_fit B b
+
 pub worked_cases : WorkedCases
 worked_cases =
     record {
@@ -95,4 +126,5 @@ worked_cases =
       no_grant_no_reach = no_grant;
       level_bars_reach = barred;
       detour_takes_three = three;
+      one_off_itself = shared;
     }

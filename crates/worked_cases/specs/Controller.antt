@@ -1,13 +1,20 @@
 -- The worked cases: what the verdicts are for the controller of a time lock, and for a detour.
-use Rattle.std.specs.Prelude.{ℕ, List, [], ◌∷◌}
+use Rattle.std.specs.Prelude.{◌≡◌, ℕ, true, List, [], ◌∷◌}
 use Rattle.access.specs.Operations.{number_of, one}
 use Rattle.access.specs.declared.operation.Operation.TheVariants.{Read, Write, Append, Update, Become}
+use Rattle.access.specs.Contexts.{inside}
+use Rattle.access.specs.declared.context_set.ContextSet.{ContextSet}
 use Rattle.access.specs.Policy.{Meaning}
 use Rattle.access.specs.Sound.{Sound}
 use Rattle.verdicts.specs.Runs.{Grants}
 use Rattle.verdicts.specs.Activities.{Property, integrity, confidentiality, domain, consistency}
 use Rattle.verdicts.specs.Verdicts.{Guaranteed, Broken}
+use Rattle.properties.specs.declared.property.Template.{Template}
+use Rattle.properties.specs.declared.property.Template.TheVariants.{Domain}
+use Rattle.sheet.specs.Book.{start, refusal}
+use Rattle.sheet.specs.declared.request.Request.TheVariants.{EnterProperty}
 use Rattle.worked_cases.specs.Vectors.{one_of, flat, raised, piled, step, Vector}
+use Rattle.worked_cases.specs.Entered.{Only, Meets}
 
 -- the controller's contexts
 abbrev pub clock : ℕ
@@ -91,4 +98,5 @@ pub record WorkedCases : Type 0 where
   pub level_bars_reach : Guaranteed (controller (raised opening)) maintenance keypad_off_opening
   -- 1 writes 2 at once, but no transition follows a transfer: 4 is reached by transitions alone, and these go by 3
   pub detour_takes_three : Broken detour [] one_off_four (step 1 Become 3 0 ∷ step 3 Become 2 0 ∷ step 2 Become 4 0 ∷ [])
-  -- here joins, once the book of calls stands: entering a property with the sets {1} and {1} meets refusal 7
+  -- entering {1} against {1} on the controller's sheet meets refusal 7, under every number and in every template that uses both sets
+  pub one_off_itself : (k : ℕ) (t : Template) (A B : ContextSet) → inside 64 k ≡ true → (t ≡ Domain → ⊥) → Only 1 A → Only 1 B → Meets 7 (refusal (start (controller flat)) (EnterProperty k (record { template = t; first = A; second = B })))

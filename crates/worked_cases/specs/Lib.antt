@@ -1,2 +1,3 @@
 pub mod Vectors
+pub mod Entered
 pub mod Controller

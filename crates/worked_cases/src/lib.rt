@@ -1,4 +1,4 @@
-//! The worked cases of the time lock's controller, as one theorem on the definitions of the verdicts.
+//! The worked cases of the time lock's controller, as one theorem on the definitions of the verdicts and of the book of calls.
 
 #![tactic(auto)]
 
