@@ -200,7 +200,8 @@ impl Reached {
     }
 }
 
-/// What can be done in some legal run, for each pair.
+/// What can be done in some legal run, for each pair. Permitted changes may come before every step, so each step can have what
+/// grants give, whatever came before it.
 fn possible(sheet: &Sheet) -> Vec<Operations> {
     let n = sheet.n();
     let mut possible = sheet.written.clone();

@@ -83,13 +83,6 @@ impl Sheet {
         self.written[s * self.n() + t] & self.let_set(s, t)
     }
 
-    /// What can be done in some legal run: permitted changes may come before every step, so that each step can have what its
-    /// grants give, whatever came before.
-    pub fn possible(&self, s: usize, t: usize) -> Operations {
-        let granted = self.grants.values().fold(NONE, |given, grant| given | grant.gives(s, t));
-        (self.written[s * self.n() + t] | granted) & self.let_set(s, t)
-    }
-
     /// 0 where the policy allows the step by itself, and otherwise the lowest grant that gives it.
     pub fn origin(&self, s: usize, t: usize, operation: usize) -> usize {
         if self.allowed(s, t) & 1 << operation != NONE {

@@ -1,6 +1,7 @@
 //! Prints a policy text:
 //! `generate seed SEED` a small or damaged one, the same for the same seed;
-//! `generate large TEMPLATE N PROPERTIES` one with long searches: 4N pairs, 32 grants, and PROPERTIES of one template.
+//! `generate large TEMPLATE N PROPERTIES` one with long searches: 4N pairs, 32 grants, and PROPERTIES of one template;
+//! `generate arcade` that of an arcade of safes.
 
 use baseline::generate;
 use std::error::Error;
@@ -18,7 +19,8 @@ fn main() -> Result<(), Box<dyn Error>> {
             }
             generate::large::text(template, n, properties).into_bytes()
         }
-        _ => return Err("usage: generate seed SEED | generate large TEMPLATE N PROPERTIES".into()),
+        ["arcade"] => generate::arcade::text().into_bytes(),
+        _ => return Err("usage: generate seed SEED | generate large TEMPLATE N PROPERTIES | generate arcade".into()),
     };
     stdout().write_all(&text)?;
     Ok(())

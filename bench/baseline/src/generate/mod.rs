@@ -1,5 +1,6 @@
 //! Policy texts: small ones, damaged ones, and the largest.
 
+pub mod arcade;
 mod damage;
 pub mod large;
 mod small;
