@@ -97,10 +97,10 @@ impl<'a> Judge<'a> {
 
     /// An interaction with exactly one end in the domain.
     fn crossing(&self, domain: &Marks) -> Option<Step> {
-        let n = self.n;
-        let pairs = (0..n).flat_map(|s| (0..n).map(move |t| (s, t)));
-        let mut crossing = pairs.filter(|&(s, t)| domain[s] != domain[t]);
-        crossing.find_map(|(s, t)| self.interaction(s, t))
+        (0..self.n).find_map(|s| {
+            let t = (0..self.n).find(|&t| domain[s] != domain[t] && self.possible(s, t) != NONE)?;
+            self.interaction(s, t)
+        })
     }
 
     /// A shortest flow that consistency forbids, over each source by itself.
