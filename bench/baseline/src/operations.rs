@@ -4,9 +4,8 @@
 pub type Operations = u16;
 
 /// The names by number.
-pub const NAMES: [&str; 12] = [
-    "read", "write", "append", "update", "execute", "become", "stat", "lock", "unlock", "signal", "send", "receive",
-];
+pub const NAMES: [&str; 12] =
+    ["read", "write", "append", "update", "execute", "become", "stat", "lock", "unlock", "signal", "send", "receive"];
 
 pub const BECOME: usize = 5;
 

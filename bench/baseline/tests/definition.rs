@@ -29,12 +29,13 @@ fn written(sheet: &Sheet, s: usize, t: usize, operation: &str) -> bool {
 
 /// Whether some legal run has the interaction at a wished place: the policy has it written, or a permitted change adds it.
 fn can(sheet: &Sheet, s: usize, t: usize, operation: &str) -> bool {
-    let gives = sheet.grants.values().any(|grant| grant.subjects[s] && grant.targets[t] && grant.operations >> number(operation) & 1 == 1);
+    let gives = sheet.grants.values().any(|grant| grant.gives(s, t) >> number(operation) & 1 == 1);
     lets(sheet, s, t, operation) && (written(sheet, s, t, operation) || gives)
 }
 
 fn transfer(sheet: &Sheet, g: usize, k: usize) -> bool {
-    WRITE_LIKE.iter().any(|operation| can(sheet, g, k, operation)) || READ_LIKE.iter().any(|operation| can(sheet, k, g, operation))
+    WRITE_LIKE.iter().any(|operation| can(sheet, g, k, operation))
+        || READ_LIKE.iter().any(|operation| can(sheet, k, g, operation))
 }
 
 /// The fewest moves of a chain from a context to a wished one, of at most so many moves. `forward` says which way transfers go.
@@ -70,7 +71,8 @@ fn least(sheet: &Sheet, property: &Property) -> Option<usize> {
         }
         Template::Consistency => sources
             .filter_map(|a| {
-                let reads = |b| READ_LIKE.iter().any(|operation| written(sheet, a, b, operation) && lets(sheet, a, b, operation));
+                let reads =
+                    |b| READ_LIKE.iter().any(|operation| written(sheet, a, b, operation) && lets(sheet, a, b, operation));
                 let unread: Vec<bool> = (0..n).map(|b| second[b] && !reads(b)).collect();
                 fewest(sheet, a, &unread, false, false, n)
             })

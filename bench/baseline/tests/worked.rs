@@ -74,8 +74,7 @@ fn sets_that_share_a_context() {
 
 #[test]
 fn as_many_pairs_as_fit() {
-    let vectors: Vec<String> =
-        (0..1025).map(|pair| format!("vector c{} c{} read\n", pair % 33, pair / 33)).collect();
+    let vectors: Vec<String> = (0..1025).map(|pair| format!("vector c{} c{} read\n", pair % 33, pair / 33)).collect();
     let again = "vector c0 c0 write\n";
     assert_eq!(printed(&(contexts(33) + &vectors[..1024].concat() + again)), "");
     assert_eq!(printed(&(contexts(33) + &vectors.concat())), "fault 11 line 1058 column 1 layer 3\n");

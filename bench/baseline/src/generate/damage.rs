@@ -5,6 +5,7 @@ use crate::random::Random;
 
 const ODD_BYTES: [u8; 16] = [0, 9, 10, 11, 13, b' ', b',', b'-', b'/', b'0', b'A', b'_', b'{', 127, 128, 255];
 
+#[rustfmt::skip]
 const ODD_WORDS: [&str; 36] = [
     "", "0", "00", "1", "01", "15", "16", "32", "33", "64", "65", "255", "256", "999", "1000", "65536", "4294967296", "+1", "-1",
     "context", "constrain", "vector", "grant", "property", "domain", "integrity", "become", "Read", "a", "b", "a,b", "a,", ",a",
@@ -13,7 +14,7 @@ const ODD_WORDS: [&str; 36] = [
 
 /// A text with one to three things in it damaged.
 pub fn damaged(mut text: Vec<u8>, random: &mut Random) -> Vec<u8> {
-    for _ in 0..*random.pick(&[1, 1, 1, 2, 3]) {
+    for _ in 0..random.pick(&[1, 1, 1, 2, 3]) {
         text = match random.below(10) {
             0..=2 => one_byte(text, random),
             3..=5 => one_line(&text, random),
@@ -36,12 +37,12 @@ pub fn sized(text: Vec<u8>, random: &mut Random) -> Vec<u8> {
 
 fn one_byte(mut text: Vec<u8>, random: &mut Random) -> Vec<u8> {
     if text.is_empty() {
-        return vec![*random.pick(&ODD_BYTES)];
+        return vec![random.pick(&ODD_BYTES)];
     }
     let at = random.below(text.len());
     match random.below(4) {
-        0 => text[at] = *random.pick(&ODD_BYTES),
-        1 => text.insert(at, *random.pick(&ODD_BYTES)),
+        0 => text[at] = random.pick(&ODD_BYTES),
+        1 => text.insert(at, random.pick(&ODD_BYTES)),
         2 => text[at] ^= 1 << random.below(8),
         _ => {
             text.remove(at);
@@ -92,7 +93,11 @@ fn of_size(mut text: Vec<u8>, size: usize) -> Vec<u8> {
     let name = first_name(&text);
     while text.len() < size {
         let left = size - text.len();
-        let line = if left > 2000 { 1000 } else if left > 1000 { left / 2 } else { left };
+        let line = match left {
+            2001.. => 1000,
+            1001.. => left / 2,
+            _ => left,
+        };
         text.extend_from_slice(long_vector(&name, line - 1).as_bytes());
     }
     text

@@ -69,7 +69,7 @@ impl Large<'_> {
         let chosen = |&c: &usize| (c / OWNERS * 3 + number) % 5 < 3;
         let low = self.set((0..self.n).filter(chosen).filter(|c| c % OWNERS < OWNERS / 2));
         let high = self.set((0..self.n).filter(chosen).filter(|c| c % OWNERS >= OWNERS / 2));
-        let (subjects, targets) = if number % 2 == 0 { (low, high) } else { (high, low) };
+        let (subjects, targets) = if number.is_multiple_of(2) { (low, high) } else { (high, low) };
         format!("grant {number} {subjects} {targets} read write append\n")
     }
 
@@ -80,7 +80,7 @@ impl Large<'_> {
         let aim = if guaranteed { vault } else { vault - 1 };
         let sets = match template {
             "domain" if guaranteed => self.set((0..self.n).filter(|c| c % OWNERS < OWNERS / 2)),
-            "domain" if number % 8 == 0 => self.set(0..vault),
+            "domain" if number.is_multiple_of(8) => self.set(0..vault),
             "domain" => self.set([vault].into_iter()),
             "consistency" => format!("{} {}", self.set(0..self.n / 2), self.names[aim]),
             // One source in most, which makes the longest chains; everything but the aim in some.

@@ -32,7 +32,7 @@ pub fn short_names(count: usize) -> Vec<String> {
 fn long_vector(name: &str, length: usize) -> String {
     let mut line = format!("vector {name} {name}");
     while line.len() < length {
-        let word = if (length - line.len()) % 5 == 0 { " read" } else { " write" };
+        let word = if (length - line.len()).is_multiple_of(5) { " read" } else { " write" };
         line.push_str(word);
     }
     line + "\n"
@@ -42,13 +42,13 @@ fn operation(random: &mut Random) -> &'static str {
     const TRANSFERRING: [&str; 9] = ["read", "write", "append", "update", "stat", "signal", "send", "receive", "read"];
     match random.below(5) {
         0 => "become",
-        1 => *random.pick(&NAMES),
-        _ => *random.pick(&TRANSFERRING),
+        1 => random.pick(&NAMES),
+        _ => random.pick(&TRANSFERRING),
     }
 }
 
 fn operations(random: &mut Random) -> String {
-    let count = *random.pick(&[1, 1, 1, 2, 3]);
+    let count = random.pick(&[1, 1, 1, 2, 3]);
     let names: Vec<&str> = (0..count).map(|_| operation(random)).collect();
     names.join(" ")
 }

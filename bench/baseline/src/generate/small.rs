@@ -65,8 +65,8 @@ impl Plan {
     }
 
     fn contexts(&self, random: &mut Random) -> String {
-        let level = *random.pick(&[0, 0, 1, 2, 15]);
-        let owner = *random.pick(&[0, 1, 1, 3, 15]);
+        let level = random.pick(&[0, 0, 1, 2, 15]);
+        let owner = random.pick(&[0, 1, 1, 3, 15]);
         let line = |name| format!("context {name} {} {}\n", random.within(0, level), random.within(0, owner));
         self.names.iter().map(line).collect()
     }
@@ -82,7 +82,7 @@ impl Plan {
     }
 
     fn property(&self, number: usize, random: &mut Random) -> String {
-        let template = *random.pick(&TEMPLATES);
+        let template = random.pick(&TEMPLATES);
         let mut names = self.names.clone();
         random.shuffle(&mut names);
         let (one, other) = names.split_at(names.len().div_ceil(2));
@@ -114,7 +114,7 @@ fn numbers(count: usize, most: usize, random: &mut Random) -> Vec<usize> {
     random.shuffle(&mut numbers);
     numbers.truncate(count);
     if count > 1 && random.once_in(40) {
-        numbers[0] = *random.pick(&[0, most + 1, 999, numbers[1]]);
+        numbers[0] = random.pick(&[0, most + 1, 999, numbers[1]]);
     }
     numbers
 }
@@ -122,6 +122,6 @@ fn numbers(count: usize, most: usize, random: &mut Random) -> Vec<usize> {
 /// Different names of any length.
 fn odd_names(count: usize, random: &mut Random) -> Vec<String> {
     let bytes: Vec<char> = ('a'..='z').chain('0'..='9').chain(['_']).collect();
-    let rests = [(); 8].map(|()| (0..random.below(16)).map(|_| *random.pick(&bytes)).collect::<String>());
+    let rests = [(); 8].map(|()| (0..random.below(16)).map(|_| random.pick(&bytes)).collect::<String>());
     ('a'..='h').zip(rests).map(|(first, rest)| format!("{first}{rest}")).take(count).collect()
 }
