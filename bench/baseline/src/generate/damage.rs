@@ -28,10 +28,10 @@ pub fn damaged(mut text: Vec<u8>, random: &mut Random) -> Vec<u8> {
 /// A text brought to a bound: of its bytes, of a line's bytes, of a name's, or of its contexts.
 pub fn sized(text: Vec<u8>, random: &mut Random) -> Vec<u8> {
     match random.below(4) {
-        0 => of_size(text, random.within(65_534, 65_538)),
-        1 => with_line(text, random.within(1022, 1026)),
-        2 => with_name(text, random.within(15, 18)),
-        _ => with_contexts(text, random.within(254, 258)),
+        0 => of_size(text, random.within(65_535, 65_537)),
+        1 => with_line(text, random.within(1023, 1025)),
+        2 => with_name(text, random.within(15, 17)),
+        _ => with_contexts(text, random.within(255, 257)),
     }
 }
 

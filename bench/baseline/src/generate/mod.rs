@@ -14,8 +14,8 @@ pub fn text(seed: u64) -> Vec<u8> {
     match random.below(100) {
         0 => small::crowded(&mut random),
         1 | 2 => small::wide(&mut random),
-        3 => damage::sized(small::text(&mut random), &mut random),
-        4..=51 => damage::damaged(small::text(&mut random), &mut random),
+        3..=6 => damage::sized(small::text(&mut random), &mut random),
+        7..=52 => damage::damaged(small::text(&mut random), &mut random),
         _ => small::text(&mut random),
     }
 }

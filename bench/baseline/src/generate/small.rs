@@ -29,7 +29,7 @@ pub fn crowded(random: &mut Random) -> Vec<u8> {
     let mut pairs: Vec<(&String, &String)> = names.iter().flat_map(|s| names.iter().map(move |t| (s, t))).collect();
     random.shuffle(&mut pairs);
     let mut text: String = names.iter().map(|name| format!("context {name} 0 0\n")).collect();
-    for &(s, t) in &pairs[..random.within(1022, 1026)] {
+    for &(s, t) in &pairs[..random.within(1023, 1025)] {
         text += &format!("vector {s} {t} {}\n", operation(random));
     }
     text += &format!("property 1 integrity {} {}\n", names[0], names[1]);
