@@ -1,7 +1,9 @@
-//! A tour of the library: lays out the sample controller, prints who may do what to whom, before and after changes, and seeks
-//! chains of steps by which one context reaches another.
+//! A tour of the library: lays out the sample controller, prints who may do what to whom, before and after changes, seeks chains of
+//! steps by which one context reaches another, and serves every kind of request on a sheet.
 
 #![tactic(auto)]
+
+mod requests;
 
 use access::context_set::ContextSet;
 use access::numbers::index_in;
@@ -21,6 +23,7 @@ use moves::step::Step;
 use record_table::table::RecordTable;
 use search::Place;
 use seek::seek::seek;
+use std::alloc::Global;
 use std::io;
 
 /// The contexts of the sample controller, from number 1.
@@ -164,7 +167,7 @@ fn show(rt: &impl Print, levels: Labels, owners: Labels) -> io::Result<()> {
     }
 }
 
-fn tour(rt: &impl Print) -> io::Result<()> {
+fn tour(rt: &impl Print, alloc: Global) -> io::Result<()> {
     let zero = Labels::zero();
     println!(rt; "The sample controller, all of level 0 and owner 0:")?;
     show(rt, zero, zero)?;
@@ -194,12 +197,14 @@ fn tour(rt: &impl Print) -> io::Result<()> {
                 policy: &controller,
                 grants: &grants,
             };
-            ask_both(rt, &regime)
+            ask_both(rt, &regime)?;
+            println!(rt; "Requests to a sheet over it:")?;
+            requests::show(rt, alloc, controller)
         }
         Err(refusal) => print_answer(rt, "laying out", Err(refusal)),
     }
 }
 
 fn main(rt: HostRuntime) -> io::Result<()> {
-    tour(&rt)
+    tour(&rt, rt.alloc())
 }

@@ -1,0 +1,187 @@
+//! Requests of every kind to a sheet over the sample controller, refused ones among them, and what they are answered.
+use crate::{CLOCK, KEYPAD, LOG, MAINT, OPENING, Pile, print_step};
+use access::context_set::ContextSet;
+use access::operation::Operation;
+use access::operation_set::OperationSet;
+use moves::grant::Grant;
+use properties::property::{Property, Template};
+use replay::answer::Answer;
+use replay::replay::replay;
+use sheet::request::Request;
+use std::alloc::Global;
+use std::io;
+
+/// A request, and how it is called in print.
+type Named = (&'static str, Request);
+
+fn only(context: u16) -> ContextSet {
+    ContextSet::none().with(context)
+}
+
+/// A grant by which maintenance may be given `write` on the opening times.
+fn grant() -> Grant {
+    Grant {
+        subjects: only(MAINT),
+        targets: only(OPENING),
+        operations: OperationSet::from(Operation::Write),
+    }
+}
+
+/// Nothing may get from the keypad to a context.
+fn keypad_apart_from(context: u16) -> Property {
+    Property {
+        template: Template::Integrity,
+        first: only(KEYPAD),
+        second: only(context),
+    }
+}
+
+/// Judging over memory that suffices for five contexts, or over less.
+fn judge(number: u16, ticks: usize) -> Request {
+    Request::Judge {
+        number,
+        ticks,
+        places: 10,
+        steps: 5,
+    }
+}
+
+fn set(subject: u16, target: u16, operations: OperationSet) -> Request {
+    Request::Set {
+        subject,
+        target,
+        operations,
+    }
+}
+
+/// Grants and properties.
+fn entering() -> [Named; 11] {
+    let grant = grant();
+    let property = keypad_apart_from(OPENING);
+    let itself = keypad_apart_from(KEYPAD);
+    [
+        ("enter grant 1", Request::EnterGrant { number: 1, grant }),
+        (
+            "enter grant 1 again",
+            Request::EnterGrant { number: 1, grant },
+        ),
+        ("enter grant 33", Request::EnterGrant { number: 33, grant }),
+        (
+            "enter property 1",
+            Request::EnterProperty {
+                number: 1,
+                property,
+            },
+        ),
+        (
+            "enter property 2 of the keypad against itself",
+            Request::EnterProperty {
+                number: 2,
+                property: itself,
+            },
+        ),
+        ("judge property 1", judge(1, 10)),
+        ("judge property 1 with nine ticks", judge(1, 9)),
+        ("judge property 2", judge(2, 10)),
+        ("strike grant 1", Request::StrikeGrant { number: 1 }),
+        ("strike grant 1 again", Request::StrikeGrant { number: 1 }),
+        ("judge property 1", judge(1, 10)),
+    ]
+}
+
+/// Changes that are withdrawn and adopted.
+fn changing() -> [Named; 14] {
+    let write = OperationSet::from(Operation::Write);
+    let written = Request::AskWritten {
+        subject: MAINT,
+        target: OPENING,
+    };
+    [
+        ("withdraw", Request::Withdraw),
+        ("open a change", Request::Open),
+        ("open another", Request::Open),
+        ("give maint write on opening", set(MAINT, OPENING, write)),
+        (
+            "empty clock on opening",
+            set(CLOCK, OPENING, OperationSet::none()),
+        ),
+        ("judge property 1", judge(1, 10)),
+        ("withdraw", Request::Withdraw),
+        ("what is written of maint on opening", written),
+        ("open a change", Request::Open),
+        ("give maint write on opening", set(MAINT, OPENING, write)),
+        ("adopt", Request::Adopt),
+        ("adopt again", Request::Adopt),
+        ("what is written of maint on opening", written),
+        ("strike property 1", Request::StrikeProperty { number: 1 }),
+    ]
+}
+
+/// The other questions.
+fn asking() -> [Named; 4] {
+    let permitted = Request::AskPermitted {
+        subject: MAINT,
+        target: LOG,
+    };
+    [
+        ("accepted settings", Request::AskSettings),
+        ("contexts", Request::AskContexts),
+        ("pairs that have room", Request::AskCapacity),
+        ("what is permitted of maint on log", permitted),
+    ]
+}
+
+fn print_operations(rt: &impl Print, set: OperationSet) -> io::Result<()> {
+    if set.is_empty() {
+        return println!(rt; " nothing");
+    }
+    for operation in (0..12).filter_map(|number| Operation::try_from(number).ok()) {
+        if set.has(operation) {
+            print!(rt; " {operation}")?;
+        }
+    }
+    println!(rt; "")
+}
+
+fn print_answer(rt: &impl Print, answer: &Answer) -> io::Result<()> {
+    match answer {
+        Answer::Accepted => println!(rt; " accepted"),
+        Answer::Refused(why) => println!(rt; " refused, number {}: {why}", u8::from(*why)),
+        Answer::Guaranteed => println!(rt; " guaranteed"),
+        Answer::Broken { steps } => {
+            println!(rt; " broken, in {} steps", steps.len())?;
+            for step in steps.iter() {
+                print_step(rt, *step)?;
+            }
+            Ok(())
+        }
+        Answer::Number(number) => println!(rt; " {number}"),
+        Answer::Operations(set) => print_operations(rt, *set),
+    }
+}
+
+fn print_answers(rt: &impl Print, named: &[Named], answers: &[Answer]) -> io::Result<()> {
+    for (named, answer) in named.iter().zip(answers) {
+        print!(rt; "  {}:", named.0)?;
+        print_answer(rt, answer)?;
+    }
+    Ok(())
+}
+
+/// Serves all these requests on a sheet over the controller, and prints what each was answered.
+pub(crate) fn show(rt: &impl Print, alloc: Global, controller: Pile) -> io::Result<()> {
+    let mut named = Vec::new(alloc);
+    named.extend_from_slice(&entering())?;
+    named.extend_from_slice(&changing())?;
+    named.extend_from_slice(&asking())?;
+    let mut requests = Vec::new(alloc);
+    for (_, request) in named.iter() {
+        requests.push(*request)?;
+    }
+    let outcome = replay(alloc, controller, &requests);
+    let served = outcome.served;
+    let printed = print_answers(rt, &named, &outcome.answers);
+    let _ = outcome.close();
+    printed?;
+    Ok(served?)
+}
