@@ -14,7 +14,8 @@ use Rattle.sheet.specs.declared.request.Request.TheVariants.{Open, Withdraw, Jud
 use Rattle.sheet.specs.declared.sheet.Sheet.{Sheet}
 use Rattle.sheet.proofs.Accepted.{after}
 use Rattle.sheet.proofs.Fitness.{fitness_stays}
-use Rattle.replay.specs.Replies.{accepted, reply_of, Tells, Right, RightWhere, replied, plainly, deciding}
+use Rattle.replay.specs.Replies.{accepted, reply_of, Tells, Right, RightWhere}
+use Rattle.replay.specs.Calls.{replied, plainly, deciding}
 use Rattle.replay.specs.Ready.{Ready, Answered, Served}
 use Rattle.replay.specs.declared.answer.Answer.{Answer}
 use Rattle.replay.specs.declared.answer.Answer.TheVariants.{Accepted, Refused}

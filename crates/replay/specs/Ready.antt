@@ -1,19 +1,14 @@
 -- A sheet with the change that its caller holds.
-use Rattle.std.specs.Prelude.{◌≡◌, Bool, true, false, Ok, Err, Result, Option, is_some}
+use Rattle.std.specs.Prelude.{◌≡◌, Bool, true, false, Ok, Err, Result, is_some}
 use Rattle.access.specs.Policy.{Meaning}
 use Rattle.sheet.specs.Book.{Book, fed}
 use Rattle.sheet.specs.Judging.{Fit}
 use Rattle.sheet.specs.Stands.{Stands}
-use Rattle.sheet.specs.declared.change.Change.{Change}
 use Rattle.sheet.specs.declared.request.Request.{Request}
 use Rattle.sheet.specs.declared.request.Request.TheVariants.{Judge}
 use Rattle.replay.specs.Replies.{reply_of, Right}
 use Rattle.replay.specs.declared.answer.Answer.{Answer}
 use Rattle.replay.specs.declared.session.Session.{Session}
-
--- the session with the change that is held replaced
-abbrev pub holding : {P : Type 0} → Session P → Option Change → Session P
-holding session held = record { sheet = session.sheet; held = held }
 
 -- a book stands on the sheet, its properties are fit, and a change is held while one is open, and only then
 pub record Ready {P : Type 0} (meaning : P → Meaning) (b : Book) (session : Session P) : Type 0 where

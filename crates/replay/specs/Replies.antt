@@ -1,5 +1,5 @@
 -- What answers mean, and which of them a book calls for.
-use Rattle.std.specs.Prelude.{◌≡◌, ℕ, Bool, true, false, ◌↔◌, List, [], ◌∷◌, map, Some, None, Ok, Err, Option, Result, vec_items}
+use Rattle.std.specs.Prelude.{◌≡◌, ℕ, ◌↔◌, List, [], ◌∷◌, map, Some, None, Option, vec_items}
 use Rattle.access.specs.Refusals.{refusal_number}
 use Rattle.access.specs.declared.refusal.Refusal.{Refusal}
 use Rattle.verdicts.specs.Verdicts.{Step, Guaranteed as Holds, Broken as Breaks}
@@ -76,18 +76,3 @@ Right b q r = RightWhere (refusal b q) b q r
 pub data Replies : Book → List Request → List Reply → Type 0 where
   none : {b : Book} → Replies b [] []
   next : {b : Book} {q : Request} {r : Reply} {qs : List Request} {rs : List Reply} → Right b q r → Replies (fed b q) qs rs → Replies b (q ∷ qs) (r ∷ rs)
-
--- what a call is answered that tells nothing but its refusal
-abbrev pub replied : Option Refusal → Answer
-replied None = Accepted
-replied (Some why) = Refused why
-
--- the request that ends a change, its settings kept or not
-abbrev pub deciding : Bool → Request
-deciding true = Adopt
-deciding false = Withdraw
-
--- the same of the result of such a call
-abbrev pub plainly : Result (Unit {0}) Refusal → Answer
-plainly (Ok x) = Accepted
-plainly (Err why) = Refused why

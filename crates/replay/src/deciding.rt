@@ -4,8 +4,8 @@ ghost use Rattle.sheet.specs.Book.{Book, start, fed};
 ghost use Rattle.sheet.specs.Stands.{Stands, Serves, shown, spent};
 ghost use Rattle.sheet.specs.declared.request.Request.TheVariants.{Open};
 ghost use Rattle.replay.specs.Bare.{bare_meaning};
-ghost use Rattle.replay.specs.Replies.{replied, deciding};
-ghost use Rattle.replay.specs.Ready.{holding, Ready, Answered};
+ghost use Rattle.replay.specs.Calls.{holding, replied, deciding};
+ghost use Rattle.replay.specs.Ready.{Ready, Answered};
 
 use crate::answer::Answer;
 use crate::bare::Bare;

@@ -3,7 +3,7 @@ ghost use Rattle.std.specs.Prelude.{◌≡◌};
 ghost use Rattle.sheet.specs.Book.{Book};
 ghost use Rattle.sheet.specs.Stands.{shown};
 ghost use Rattle.replay.specs.Ready.{Ready, Served};
-ghost use Rattle.replay.specs.Replies.{plainly};
+ghost use Rattle.replay.specs.Calls.{plainly};
 
 use crate::answer::Answer;
 use crate::judging::judge;

@@ -1,4 +1,4 @@
-use Rattle.replay.specs.Replies.{deciding}
+use Rattle.replay.specs.Calls.{deciding}
 use Rattle.replay.proofs.Serving.{deciding_call}
 use Rattle.replay.proofs.deciding.decide_without.Goals as goal
 
