@@ -2,5 +2,6 @@
 
 #![tactic(auto)]
 
-mod part;
+pub mod part;
+pub mod reporting;
 mod writing;
