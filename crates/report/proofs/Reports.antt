@@ -55,7 +55,7 @@ module _ (b : Book) (k : ℕ) (names : List (List ℕ)) (ts : List ℕ) (ps ps' 
   room None e = let stands = rw e at (none_applies _ _ _ judged.0).0 in absurd (cc)
   room (Some p) e = room_on p v (judged.1 p e (subst (λ (x : Option Property). fits b.policy.contexts x ≡ true) e fit))
 
-  pub reports : (r : Result ℕ Refusal) → WritesPart k v ss' names ms ms' r → Reports b k names ts ps ps' ss ss' ms ms' r
+  pub reports : (r : Result ℕ Refusal) → WritesPart k v ss' names ms ms' r → Reports b k names (length ts) ps ps' ss ss' ms ms' r
   reports (Ok n) (none, written) =
       (rw judged.0 (grind (arith, nat_tests)), λ p e. record { verdict = v; right = judged.1 p e (subst (λ (x : Option Property). fits b.policy.contexts x ≡ true) e fit); in_front = written })
   reports (Err w) (some, same) = let fits = room (b.properties k) refl in absurd (grind (arith, nat_tests, rw fits at some))
