@@ -1,19 +1,17 @@
 -- One writing after another.
-use Rattle.std.proofs.Common.{◌≡◌, ℕ, ◌+◌, ◌-◌, ◌<◌, ◌≤◌, List, [], ◌∷◌, ◌++◌, length, take, drop, Result, refl, sym, ap, ap₂, ◌∙◌, arith, append_assoc, length-append, get_or}
+use Rattle.std.proofs.Common.{◌≡◌, ℕ, ◌+◌, ◌-◌, ◌<◌, ◌≤◌, List, ◌++◌, length, take, drop, sym, ap, ap₂, ◌∙◌, arith, append_assoc, length-append, get_or}
 use Rattle.std.proofs.lemmas.List.{drop-drop, take-append-drop, take_more, append-nil}
 use Rattle.std.proofs.lemmas.Grind.{flat_map-append}
 use Rattle.std.specs.List.{flat_map}
 use Rattle.lent.specs.declared.List.{List as Lent}
-use Rattle.lent.specs.Changes.{Pushed}
-use Rattle.lent.proofs.Rooms.{added}
 use Rattle.report.specs.Parts.{InFront}
-use Rattle.report.specs.Written.{Room, Wrote}
+use Rattle.report.specs.Written.{Wrote}
 
 -- what agrees from j on agrees from k on
 later : (xs ys : List ℕ) (j k : ℕ) → j ≤ k → drop j xs ≡ drop j ys → drop k xs ≡ drop k ys
 later xs ys j k h e =
     let s : k ≡ j + (k - j) = omega arith in
-    rw (s, ← drop-drop, ← drop-drop) (ap (drop (k - j)) e)
+    rw s (sym (drop-drop (k - j) j xs) ∙ ap (drop (k - j)) e ∙ drop-drop (k - j) j ys)
 
 pub wrote_more : {a b d : Lent ℕ} {bs cs : List ℕ} → Wrote a bs b → Wrote b cs d → Wrote a (bs ++ cs) d
 wrote_more {a} {b} {d} {bs} {cs} p q = record {

@@ -1,5 +1,5 @@
 -- From a judging and the writing of its verdict to the report of a property.
-use Rattle.std.proofs.Common.{◌≡◌, ℕ, ◌≤◌, Bool, true, false, not, nat_lt, nat_le, List, [], ◌∷◌, length, Some, None, Ok, Err, Option, Result, unwrap_or, refl, sym, subst, arith}
+use Rattle.std.proofs.Common.{◌≡◌, ℕ, ◌≤◌, Bool, true, false, List, [], ◌∷◌, length, Some, None, Ok, Err, Option, Result, unwrap_or, refl, subst, arith}
 use Rattle.std.proofs.lemmas.Bool.Decides.{nat_tests}
 use Rattle.std.specs.Option.{option_or}
 use Rattle.std.specs.Result.{result_err}
@@ -12,20 +12,18 @@ use Rattle.properties.specs.declared.property.Property.{Property}
 use Rattle.judge.specs.declared.verdict.Verdict.{Verdict}
 use Rattle.judge.specs.declared.verdict.Verdict.TheVariants.{Guaranteed, Broken}
 use Rattle.sheet.specs.Book.{Book}
-use Rattle.sheet.specs.Judging.{fits, judging_refusal, VerdictOn, Judges}
+use Rattle.sheet.specs.Judging.{fits, VerdictOn, Judges}
 use Rattle.report.specs.Parts.{has_room_for, WritesPart}
 use Rattle.report.specs.Reporting.{reporting_refusal, Reports}
 
--- of two lists of refusals that differ in when the last applies
-pub memory_last : (i s a a' : Bool) (r : Option Refusal)
-    → first_of ((not i, why.NumberOutside) ∷ (not s, why.StandsNot) ∷ (a, why.ShortMemory) ∷ []) ≡ r
-    → option_or (first_of ((not i, why.NumberOutside) ∷ (not s, why.StandsNot) ∷ (a', why.ShortMemory) ∷ [])) (Some why.ShortMemory) ≡ Some (unwrap_or r why.ShortMemory)
-memory_last false s a a' r e = rw (← e) refl
-memory_last true false a a' r e = rw (← e) refl
-memory_last true true true true r e = rw (← e) refl
-memory_last true true true false r e = rw (← e) refl
-memory_last true true false true r e = rw (← e) refl
-memory_last true true false false r e = rw (← e) refl
+-- the refusals of judging, by whether each applies
+abbrev judging : Bool → Bool → Bool → Option Refusal
+judging outside missing short = first_of ((outside, why.NumberOutside) ∷ (missing, why.StandsNot) ∷ (short, why.ShortMemory) ∷ [])
+
+-- where there is no memory, it is the same whether the last of them applies
+memory_last : (outside missing short short' : Bool) (r : Option Refusal) → judging outside missing short ≡ r
+    → option_or (judging outside missing short') (Some why.ShortMemory) ≡ Some (unwrap_or r why.ShortMemory)
+memory_last outside missing short short' r e = rw (← e) (grind arith)
 
 -- judged over no places and no steps: what is then answered is what stops a report without memory
 pub without_memory : (b : Book) (k : ℕ) (ts : List ℕ) (ps' : List Place) (ss' : List Step) (places steps : ℕ) (r : Result Verdict Refusal)
@@ -33,12 +31,9 @@ pub without_memory : (b : Book) (k : ℕ) (ts : List ℕ) (ps' : List Place) (ss
 without_memory b k ts ps' ss' places steps (Ok v) j = memory_last _ _ _ _ None j.0
 without_memory b k ts ps' ss' places steps (Err w) j = memory_last _ _ _ _ (Some w) j.0
 
--- none of the refusals applies
-none_applies : (i s a : Bool) → first_of ((not i, why.NumberOutside) ∷ (not s, why.StandsNot) ∷ (a, why.ShortMemory) ∷ []) ≡ None → (s ≡ true) × (a ≡ false)
-none_applies false s a e = absurd (cc)
-none_applies true false a e = absurd (cc)
-none_applies true true true e = absurd (cc)
-none_applies true true false e = (refl, refl)
+-- none of them applies
+none_applies : (outside missing short : Bool) → judging outside missing short ≡ None → (missing ≡ false) × (short ≡ false)
+none_applies outside missing short e = (grind arith, grind arith)
 
 module _ (b : Book) (k : ℕ) (names : List (List ℕ)) (ts : List ℕ) (ps ps' : List Place) (ss ss' : List Step) (ms ms' : List ℕ) (v : Verdict)
     (few : b.policy.contexts ≤ 256) (kept : length ss' ≡ length ss) (long : 16384 ≤ length ms) (fit : fits b.policy.contexts (b.properties k) ≡ true)
@@ -52,7 +47,7 @@ module _ (b : Book) (k : ℕ) (names : List (List ℕ)) (ts : List ℕ) (ps ps' 
       grind (arith, nat_tests, enough, j.0.2, kept, few)
 
   room : (o : Option Property) → b.properties k ≡ o → has_room_for v (length ss') ≡ true
-  room None e = let stands = rw e at (none_applies _ _ _ judged.0).0 in absurd (cc)
+  room None e = let missing = rw e at (none_applies _ _ _ judged.0).0 in absurd (cc)
   room (Some p) e = room_on p v (judged.1 p e (subst (λ (x : Option Property). fits b.policy.contexts x ≡ true) e fit))
 
   pub reports : (r : Result ℕ Refusal) → WritesPart k v ss' names ms ms' r → Reports b k names (length ts) ps ps' ss ss' ms ms' r

@@ -3,8 +3,8 @@ ghost use Rattle.std.specs.Prelude.{◌≡◌, ◌+◌, ◌*◌, ◌≤◌, true
 ghost use Rattle.report.specs.Written.{Room, Wrote};
 ghost use Rattle.report.specs.Parts.{step_line, step_lines, broken, said, has_room_for, WritesPart};
 
-use access::refusal::Refusal;
 use crate::writing::{write, write_number, write_word};
+use access::refusal::Refusal;
 use judge::verdict::Verdict;
 use lent::List;
 use moves::step::Step;

@@ -4,8 +4,7 @@ use Rattle.report.proofs.Joins.{wrote_more, in_front}
 use Rattle.report.proofs.part.write_part.Goals as goal
 
 pub returns : goal.returns
-returns c =
-    (
-      grind (arith, nat_tests),
-      in_front c.over-report.ensures.empty c.over-report.ensures.same (wrote_more c.write_number.ensures.wrote c.write_verdict.ensures) (search rules) c.len.ensures,
-    )
+returns c = (
+  grind (arith, nat_tests),
+  in_front c.over-report.ensures.empty c.over-report.ensures.same (wrote_more c.write_number.ensures.wrote c.write_verdict.ensures) (search rules) c.len.ensures,
+)
