@@ -13,7 +13,7 @@ use Rattle.names.specs.Numbering.{name_of_number}
 abbrev pub spaced : List ℕ → List ℕ
 spaced word = 32 ∷ word
 
--- the line of a step, over the contexts' names: its subject, operation, target and origin, a space before each
+-- the line of a step, over the contexts' names: its subject, operation, target and origin, a space before each, and a line feed
 abbrev pub step_line : List (List ℕ) → Step → List ℕ
 step_line names step =
     spaced (name_of_number names step.subject)

@@ -65,7 +65,7 @@ fn has_room(verdict: Verdict, steps: &[Step]) -> bool
 /// Writes a verdict, with the steps of a broken property.
 fn write_verdict(report: &mut List<'_, u8>, names: &Names, verdict: Verdict, steps: &[Step])
     requires stand { has_room_for verdict (length steps.now) ≡ true }
-    requires room { Room 12558 report.old }
+    requires room { Room (14 + 49 * 256) report.old }
     ensures { Wrote report.old (said verdict steps.now names.now) report.new }
 {
     match verdict {
