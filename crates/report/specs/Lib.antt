@@ -1,0 +1,3 @@
+pub mod Written
+pub mod Parts
+pub mod Reporting
