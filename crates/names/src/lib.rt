@@ -1,0 +1,6 @@
+//! The names of contexts.
+
+#![tactic(auto)]
+
+pub mod name;
+pub mod names;
