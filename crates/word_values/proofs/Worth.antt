@@ -3,7 +3,8 @@ use Rattle.std.proofs.Common.{◌≡◌, ℕ, suc, ◌+◌, ◌-◌, ◌*◌, �
 use Rattle.std.specs.List.{list_all}
 use Rattle.std.proofs.lemmas.Bool.Decides.{nat_tests}
 use Rattle.std.proofs.lemmas.Grind.{common_steps}
-use Rattle.word_values.specs.Numbers.{digit, unpadded, worth, number_of}
+use Rattle.names.specs.Shape.{digit}
+use Rattle.word_values.specs.Numbers.{unpadded, worth, number_of}
 
 -- more digits are worth no less
 worth_grows : (value : ℕ) (bs : List ℕ) → value ≤ worth value bs

@@ -1,14 +1,11 @@
 -- Words that are numbers.
 use Rattle.std.specs.Prelude.{ℕ, ◌+◌, ◌-◌, ◌*◌, Bool, false, not, cond, ◌&&◌, ◌||◌, List, [], ◌∷◌, length, Some, None, Ok, Err, Option, Result, ◌==◌, nat_le, ok_or}
 use Rattle.std.specs.List.{list_all}
+use Rattle.names.specs.Shape.{digit}
 use Rattle.words.specs.Words.{WordAt}
 use Rattle.access.specs.declared.refusal.Refusal.TheVariants.{UnfitWord}
 use Rattle.word_values.specs.Flaws.{at_word}
 use Rattle.word_values.specs.declared.flaw.Flaw.{Flaw}
-
--- 0 to 9
-abbrev pub digit : ℕ → Bool
-digit b = nat_le 48 b && nat_le b 57
 
 -- the word is there, and no 0 stands before another byte
 abbrev pub unpadded : List ℕ → Bool

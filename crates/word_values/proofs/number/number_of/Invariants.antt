@@ -1,6 +1,7 @@
 use Rattle.std.proofs.Common.{◌≡◌, ◌≤◌, drop}
 use Rattle.std.specs.List.{list_all}
-use Rattle.word_values.specs.Numbers.{digit, worth}
+use Rattle.names.specs.Shape.{digit}
+use Rattle.word_values.specs.Numbers.{worth}
 use Rattle.word_values.proofs.number.number_of.Given as goal
 
 abbrev pub invariant-loop-byte : goal.invariant-loop-byte
