@@ -1,5 +1,5 @@
 //! Words that are numbers.
-ghost use Rattle.std.specs.Prelude.{◌≡◌};
+ghost use Rattle.std.specs.Prelude.{◌≡◌, ◌≤◌, IfOk};
 ghost use Rattle.words.specs.Left.{seen};
 ghost use Rattle.word_values.specs.Numbers.{unpadded, number_of, number_in, label_in};
 
@@ -46,7 +46,8 @@ pub fn number(word: Word<'_>) -> Result<u16, Flaw>
 
 /// The level or owner that a word is: a number of at most 15.
 pub fn label(word: Word<'_>) -> Result<u8, Flaw>
-    ensures { result ≡ label_in (seen word.entry) }
+    ensures told { result ≡ label_in (seen word.entry) }
+    ensures small { IfOk result (λ label. label ≤ 15) }
 {
     match number_of(word.bytes) {
         Some(label) if label <= 15 => Ok(label as u8),
