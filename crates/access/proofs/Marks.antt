@@ -26,9 +26,9 @@ module _ (s : ContextSet) (test : ℕ → Bool) (members : (k : ℕ) → member 
 
   bits_of : (j : ℕ) → j < 4 → (o : ℕ) → o < 64 → has (get_or s.words j 0) o ≡ test (64 * j + o + 1)
   bits_of j k o l =
-    let word : (64 * j + o) / 64 ≡ j = omega arith in
-    let bit : (64 * j + o) % 64 ≡ o = omega arith in
-    ap₂ (λ w b. has (get_or s.words w 0) b) (sym word) (sym bit) ∙ bit_at (64 * j + o) (omega arith)
+      let word : (64 * j + o) / 64 ≡ j = omega arith in
+      let bit : (64 * j + o) % 64 ≡ o = omega arith in
+      ap₂ (λ w b. has (get_or s.words w 0) b) (sym word) (sym bit) ∙ bit_at (64 * j + o) (omega arith)
 
 four_words : (words : List ℕ) → length words ≡ 4 → words ≡ get_or words 0 0 ∷ get_or words 1 0 ∷ get_or words 2 0 ∷ get_or words 3 0 ∷ []
 four_words [] e = absurd (omega arith)

@@ -32,6 +32,6 @@ abbrev pub set_in : List (List ℕ) → WordAt → Result ContextSet Flaw
 set_in names w =
     cond (list_all is_name (parts 44 w.bytes))
     (cond (list_all (is_known names) (parts 44 w.bytes))
-        (Ok (marked (λ c. list_any (is_called names c) (parts 44 w.bytes))))
-        (Err (at_word w UnfitName)))
+    (Ok (marked (λ c. list_any (is_called names c) (parts 44 w.bytes))))
+    (Err (at_word w UnfitName)))
     (Err (at_word w UnfitWord))

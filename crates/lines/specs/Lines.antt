@@ -1,5 +1,5 @@
 -- What a line says, by its keyword and the number of its words.
-use Rattle.std.specs.Prelude.{ℕ, cond, List, [], ◌∷◌, codes, Some, None, Option, option_map, bytes_eq}
+use Rattle.std.specs.Prelude.{cond, List, [], ◌∷◌, codes, Some, None, Option, option_map, bytes_eq}
 use Rattle.words.specs.Words.{WordAt}
 
 -- the words behind each keyword

@@ -1,6 +1,5 @@
 -- A call more.
-use Rattle.std.proofs.Common.{◌≡◌, ℕ, ◌+◌, ◌≤◌, Bool, true, false, not, T, List, [], ◌∷◌, ◌++◌, length, Some, None, Ok, Err, Option, Result, ◌==◌, refl, sym, ap, ◌∙◌, subst, arith}
-use Rattle.std.proofs.lemmas.List.{length-append}
+use Rattle.std.proofs.Common.{◌≡◌, ℕ, ◌≤◌, Bool, true, false, not, T, List, [], ◌∷◌, ◌++◌, length, Some, None, Ok, Err, Option, Result, ◌==◌, refl, sym, ap, ◌∙◌, subst, arith}
 use Rattle.std.proofs.lemmas.Bool.Decides.{nat_tests}
 use Rattle.access.specs.Refusals.{first_of}
 use Rattle.access.specs.declared.refusal.Refusal.{Refusal}
@@ -9,7 +8,6 @@ use Rattle.sheet.specs.Book.{Book, refusal, fed, fed_all, start}
 use Rattle.sheet.specs.Stands.{Stands}
 use Rattle.sheet.specs.declared.request.Request.{Request}
 use Rattle.sheet.specs.declared.sheet.Sheet.{Sheet}
-use Rattle.word_values.specs.Flaws.{of_line}
 use Rattle.word_values.specs.declared.flaw.Flaw.{Flaw}
 use Rattle.text_calls.specs.Calls.{then}
 use Rattle.text_calls.specs.Called.{Called, Answers}
@@ -18,7 +16,7 @@ use Rattle.layers.specs.declared.layer.Layer.{Layer}
 use Rattle.layers.specs.declared.level.Levels.{Levels}
 use Rattle.layers.specs.declared.owner.Owners.{Owners}
 use Rattle.policy_text.specs.Reading.{Reading, meaning_of, book_of, has_call, no_context}
-use Rattle.policy_text.specs.Lines.{with_call, called}
+use Rattle.policy_text.specs.Lines.{unless_refused, with_call, called}
 use Rattle.policy_text.specs.Shown.{pile_meaning, reading, Holds, Opened, Follows}
 use Rattle.policy_text.specs.declared.head.Head.{Head}
 use Rattle.policy_text.specs.declared.reader.Reader.{Reader}
@@ -54,7 +52,7 @@ followed_call p r asked result sheet o answers =
     true_from true t = refl
     true_from false t = absurd t
 
-    by_refusal : (q : Request) (why : Option Refusal) → Called pile_meaning (book_of p) q why result sheet → Follows (elim why [ None ↦ Ok (with_call p q) | Some w ↦ Err (of_line w) ]) result (record { head = r.head; sheet = sheet; called = true })
+    by_refusal : (q : Request) (why : Option Refusal) → Called pile_meaning (book_of p) q why result sheet → Follows (unless_refused why (Ok (with_call p q))) result (record { head = r.head; sheet = sheet; called = true })
     by_refusal q None a = (a.0, one_more p r.head q sheet o.says a.1)
     by_refusal q (Some w) a = a
 

@@ -1,12 +1,9 @@
 -- A context that is declared.
-use Rattle.std.proofs.Common.{◌≡◌, ℕ, ◌+◌, Bool, true, false, cond, List, [], ◌∷◌, ◌++◌, length, Ok, Err, Result, refl, sym, ap, ap₂, ◌∙◌, arith}
+use Rattle.std.proofs.Common.{◌≡◌, ℕ, ◌+◌, List, [], ◌∷◌, ◌++◌, length, Ok, Err, arith}
 use Rattle.std.proofs.lemmas.Grind.{common_steps}
-use Rattle.sheet.specs.declared.request.Request.{Request}
 use Rattle.words.specs.Words.{WordAt}
-use Rattle.names.specs.Shape.{is_name}
 use Rattle.word_values.specs.Numbers.{label_in}
 use Rattle.word_values.specs.declared.flaw.Flaw.{Flaw}
-use Rattle.context_words.specs.Contexts.{is_known}
 use Rattle.text_calls.specs.Calls.{then}
 use Rattle.policy_text.specs.Reading.{Reading}
 use Rattle.policy_text.specs.Lines.{with_label, new_name_in, with_context, declared}

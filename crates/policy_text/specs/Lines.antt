@@ -14,6 +14,11 @@ use Rattle.context_words.specs.Contexts.{name_in, is_known}
 use Rattle.text_calls.specs.Calls.{then, setting_call, grant_call, property_call}
 use Rattle.policy_text.specs.Reading.{Reading, book_of, misplaced}
 
+-- a refusal is the line's flaw; without one something comes of the line
+abbrev pub unless_refused : Option Refusal → Result Reading Flaw → Result Reading Flaw
+unless_refused None comes = comes
+unless_refused (Some why) comes = Err (of_line why)
+
 -- labels with that of one context replaced
 abbrev pub with_label : (ℕ → ℕ) → ℕ → ℕ → ℕ → ℕ
 with_label labels k label c = cond (c == k) label (labels c)
@@ -53,9 +58,9 @@ constrained p operations = then (operations_in operations) (λ ops. Ok (record {
 abbrev pub with_call : Reading → Request → Reading
 with_call p q = record { names = p.names; level = p.level; owner = p.owner; constrained = p.constrained; calls = p.calls ++ q ∷ [] }
 
--- a call that is accepted is one more; the refusal of another is the line's flaw
+-- a call that is accepted is one more
 abbrev pub called : Reading → Request → Result Reading Flaw
-called p q = elim (refusal (book_of p) q) [ None ↦ Ok (with_call p q) | Some why ↦ Err (of_line why) ]
+called p q = unless_refused (refusal (book_of p) q) (Ok (with_call p q))
 
 abbrev pub followed : Reading → Said → Result Reading Flaw
 followed p (context name level owner) = declared p name level owner
@@ -67,7 +72,7 @@ followed p (property number template first second) = then (property_call p.names
 -- a line that is well-formed is followed, if it may stand where it does
 abbrev pub placed : Reading → Option Said → Result Reading Flaw
 placed p None = Err (of_line UnfitLine)
-placed p (Some line) = elim (misplaced p line) [ None ↦ followed p line | Some why ↦ Err (of_line why) ]
+placed p (Some line) = unless_refused (misplaced p line) (followed p line)
 
 -- a line of at most 1,024 bytes
 abbrev pub line_read : Reading → List ℕ → Result Reading Flaw

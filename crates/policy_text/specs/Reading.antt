@@ -1,5 +1,5 @@
 -- What a policy text says as far as it is read.
-use Rattle.std.specs.Prelude.{ℕ, ◌+◌, Bool, not, cond, ◌||◌, List, [], ◌∷◌, ◌++◌, length, Option, ◌==◌, nat_le}
+use Rattle.std.specs.Prelude.{ℕ, Bool, not, ◌||◌, List, [], ◌∷◌, length, Option, ◌==◌, nat_le}
 use Rattle.access.specs.Policy.{Meaning}
 use Rattle.access.specs.Refusals.{first_of}
 use Rattle.access.specs.declared.refusal.Refusal.{Refusal}

@@ -1,5 +1,5 @@
 -- What the reader of the program holds.
-use Rattle.std.specs.Prelude.{◌≡◌, ℕ, List, Ok, Err, Result, T}
+use Rattle.std.specs.Prelude.{◌≡◌, List, Ok, Err, Result, IsOkAnd, T}
 use Rattle.access.specs.Policy.{Meaning}
 use Rattle.record_table.specs.TableMeaning.{table_meaning}
 use Rattle.record_table.specs.declared.table.RecordTable.{RecordTable}
@@ -13,6 +13,7 @@ use Rattle.sheet.specs.declared.request.Request.{Request}
 use Rattle.word_values.specs.declared.flaw.Flaw.{Flaw}
 use Rattle.policy_text.specs.Reading.{Reading, book_of, has_call}
 use Rattle.policy_text.specs.declared.head.Head.{Head}
+use Rattle.policy_text.specs.declared.controller.Controller.{Controller}
 use Rattle.policy_text.specs.declared.reader.Reader.{Reader}
 
 -- what levels over owners over a record table mean
@@ -44,3 +45,13 @@ pub record Opened (p : Reading) (reader : Reader) : Type 0 where
 abbrev pub Follows : Result Reading Flaw → Result (Unit {0}) Flaw → Reader → Type 0
 Follows (Ok p) result reader = (result ≡ Ok tt) × Holds p reader
 Follows (Err flaw) result reader = result ≡ Err flaw
+
+-- a controller as it was read: the names, and a sheet on which the book stands
+pub record IsRead (p : Reading) (c : Controller) : Type 0 where
+  pub names : c.names ≡ p.names
+  pub stands : Stands pile_meaning (book_of p) c.sheet
+
+-- a text is read, or its flaw or fault is answered
+abbrev pub Reads : {E : Type 0} → Result Reading E → Result Controller E → Type 0
+Reads (Ok p) result = IsOkAnd result (IsRead p)
+Reads (Err e) result = result ≡ Err e

@@ -1,10 +1,12 @@
 //! Where a policy text is refused.
 ghost use Rattle.std.specs.Prelude.{◌≡◌, Some};
 ghost use Rattle.policy_text.specs.Faults.{layer_of, fault_words};
+ghost use Rattle.policy_text.specs.Texts.{on_line};
 
 use access::refusal::Refusal;
 use std::error::Error;
 use std::fmt;
+use word_values::flaw::Flaw;
 
 /// Why and where a policy text is refused. Lines and columns count from 1.
 #[derive(Clone, Copy, Debug, PartialEq, Eq)]
@@ -15,6 +17,17 @@ pub struct Fault {
 }
 
 impl Fault {
+    /// The fault of a line with a flaw.
+    pub fn on(line: usize, flaw: Flaw) -> Fault
+        ensures { result ≡ on_line line flaw }
+    {
+        Fault {
+            refusal: flaw.refusal,
+            line,
+            column: flaw.column,
+        }
+    }
+
     /// The layer that finds the fault: 1 for lines, 2 for words, 3 for the calls of the sheet.
     pub fn layer(self) -> u8
         ensures { result ≡ layer_of self.refusal }

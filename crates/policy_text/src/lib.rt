@@ -2,6 +2,7 @@
 
 #![tactic(auto)]
 
+pub mod controller;
 pub mod fault;
 mod head;
 pub mod pile;

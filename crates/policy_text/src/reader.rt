@@ -4,8 +4,10 @@ ghost use Rattle.words.specs.Left.{seen, left};
 ghost use Rattle.lines.specs.Said.{said};
 ghost use Rattle.policy_text.specs.Reading.{Reading, nothing, no_context, misplaced};
 ghost use Rattle.policy_text.specs.Lines.{followed, line_read};
-ghost use Rattle.policy_text.specs.Shown.{Holds, Opened, Follows};
+ghost use Rattle.policy_text.specs.Shown.{Holds, Opened, Follows, Reads};
+ghost use Rattle.policy_text.specs.Texts.{ended};
 
+use crate::controller::Controller;
 use crate::head::Head;
 use crate::pile::Pile;
 use access::refusal::Refusal;
@@ -82,7 +84,13 @@ impl Reader {
                 operations,
             } => {
                 self.open();
-                add(&mut self.sheet, &self.head.names, subject, target, operations)
+                add(
+                    &mut self.sheet,
+                    &self.head.names,
+                    subject,
+                    target,
+                    operations,
+                )
             }
             Line::Grant {
                 number,
@@ -107,7 +115,14 @@ impl Reader {
                 second,
             } => {
                 self.open();
-                enter_property(&mut self.sheet, &self.head.names, number, template, first, second)
+                enter_property(
+                    &mut self.sheet,
+                    &self.head.names,
+                    number,
+                    template,
+                    first,
+                    second,
+                )
             }
         }
     }
@@ -124,5 +139,21 @@ impl Reader {
             return Err(Flaw::of_line(refusal));
         }
         self.follow(line)
+    }
+
+    /// Ends the text, with `rest` behind the last line feed.
+    pub(crate) fn end(mut self, rest: &[u8]) -> Result<Controller, Flaw>
+        ensures { (p : Reading) → Holds p self → Reads (ended p rest.now) result }
+    {
+        if !rest.is_empty() {
+            return Err(Flaw::of_line(Refusal::UnfitLine));
+        }
+        if self.head.names.count() == 0 {
+            return Err(Flaw::of_line(Refusal::ContextCount));
+        }
+        self.open();
+        let Reader { head, sheet, .. } = self;
+        let Head { names, .. } = head;
+        Ok(Controller { names, sheet })
     }
 }

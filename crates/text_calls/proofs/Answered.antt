@@ -1,5 +1,5 @@
 -- A line that asks for a call is answered as the call is.
-use Rattle.std.proofs.Common.{◌≡◌, Some, None, Ok, Err, Option, Result, sym, ap, ◌∙◌, subst}
+use Rattle.std.proofs.Common.{◌≡◌, Some, None, Ok, Option, Result, sym, ap, ◌∙◌, subst}
 use Rattle.access.specs.Policy.{Meaning}
 use Rattle.access.specs.Refusals.{answer}
 use Rattle.access.specs.declared.refusal.Refusal.{Refusal}

@@ -1,14 +1,13 @@
 -- The first part of a list of bytes, and the parts behind it.
-use Rattle.std.proofs.Common.{◌≡◌, ℕ, ◌+◌, ◌-◌, ◌<◌, ◌≤◌, Bool, true, false, not, cond, List, [], ◌∷◌, ◌==◌, nat_lt, nat_le, length, take, drop, refl, ap, ◌∙◌, inl, inr, ◌⊎◌, arith, unwrap_or, position}
-use Rattle.std.specs.List.{position_or_len, slice_split}
+use Rattle.std.proofs.Common.{◌≡◌, ℕ, ◌+◌, ◌-◌, ◌<◌, ◌≤◌, true, false, not, List, [], ◌∷◌, ◌==◌, nat_le, length, take, drop, refl, ap, ◌∙◌, inl, inr, ◌⊎◌, arith, unwrap_or, position}
+use Rattle.std.specs.List.{position_or_len}
 use Rattle.std.proofs.lemmas.List.Splits.{slice_split_first, slice_split_none}
 use Rattle.std.proofs.lemmas.List.Sums.{prefix_len-le-length, fails_before_first}
 use Rattle.std.proofs.lemmas.Bool.{cases_lt}
 use Rattle.std.proofs.lemmas.List.{take_all, length-drop, length-take-le, drop-drop}
-use Rattle.std.proofs.lemmas.Grind.{common_steps}
 use Rattle.std.proofs.lemmas.Bool.Decides.{nat_tests}
 use Rattle.words.specs.Parts.{parts}
-use Rattle.words.specs.Words.{WordAt, placed}
+use Rattle.words.specs.Words.{placed}
 use Rattle.words.specs.Left.{words_from}
 
 module _ (mark : ℕ) (bytes : List ℕ) where

@@ -8,5 +8,5 @@ abbrev pub invariant-loop-byte : goal.invariant-loop-byte
 invariant-loop-byte l = record {
   small : l.value ≤ 999;
   digits : list_all digit (drop l.byte-index l.word) ≡ list_all digit l.word;
-  worth : worth l.value (drop l.byte-index l.word) ≡ worth 0 l.word
+  worth : worth l.value (drop l.byte-index l.word) ≡ worth 0 l.word;
 }

@@ -1,7 +1,5 @@
-use Rattle.std.proofs.Common.{◌≡◌, rules, sym, ap, ap₂, ◌∙◌, Ok, length, ◌+◌, subst, arith}
-use Rattle.layers.specs.Labels.{label_of}
+use Rattle.std.proofs.Common.{rules, sym, ap, ◌∙◌, Ok, length, ◌+◌}
 use Rattle.words.specs.Left.{seen}
-use Rattle.policy_text.specs.Lines.{with_label}
 use Rattle.policy_text.specs.Shown.{reading}
 use Rattle.policy_text.proofs.Labels.{labelled}
 use Rattle.policy_text.proofs.Declaring.{new_name, new_number, declared_is, level_flaw, with_context_is}

@@ -1,4 +1,4 @@
-use Rattle.std.proofs.Common.{◌≡◌, ℕ, min, max, length, arith, ap, ◌∙◌, subst}
+use Rattle.std.proofs.Common.{◌≡◌, min, max, length, arith, ap, ◌∙◌, subst}
 use Rattle.record_table.specs.TableMeaning.{empty_table}
 use Rattle.layers.specs.Labels.{label_of}
 use Rattle.layers.specs.Layers.{with_levels, with_owners}
