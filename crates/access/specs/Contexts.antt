@@ -1,6 +1,6 @@
 -- Contexts and sets of contexts.
-use Rattle.std.specs.Prelude.{ℕ, zero, suc, ◌-◌, ◌/◌, ◌%◌, Bool, false, not, cond, ◌&&◌, ◌||◌, Some, None, Option, nat_le, nat_lt, slice_index}
-use Rattle.access.specs.Operations.{has}
+use Rattle.std.specs.Prelude.{ℕ, zero, suc, ◌+◌, ◌-◌, ◌*◌, ◌/◌, ◌%◌, Bool, false, not, cond, ◌&&◌, ◌||◌, [], ◌∷◌, Some, None, Option, nat_le, nat_lt, slice_index}
+use Rattle.access.specs.Operations.{has, set_of}
 use Rattle.access.specs.declared.context_set.ContextSet.{ContextSet}
 
 -- a context is a number from 1 to n
@@ -17,6 +17,14 @@ both_inside n s t = inside n s && inside n t
 -- context c, 1 to 256, is bit (c - 1) % 64 of word (c - 1) / 64
 unfoldable pub member : ContextSet → ℕ → Bool
 member set c = inside 256 c && has (slice_index set.words ((c - 1) / 64)) ((c - 1) % 64)
+
+-- word j of a set: 64 contexts, those that pass a test
+abbrev pub word_of : (ℕ → Bool) → ℕ → ℕ
+word_of test j = set_of (λ i. test (64 * j + i + 1)) 64
+
+-- the set of the contexts from 1 to 256 that pass a test
+unfoldable pub marked : (ℕ → Bool) → ContextSet
+marked test = record { words = word_of test 0 ∷ word_of test 1 ∷ word_of test 2 ∷ word_of test 3 ∷ [] }
 
 -- whether some number from 1 to n passes a test
 unfoldable pub some_to : ℕ → (ℕ → Bool) → Bool

@@ -1,7 +1,7 @@
 //! Sets of contexts.
-ghost use Rattle.std.specs.Prelude.{◌≡◌, ℕ, ◌<◌, ◌≤◌, true, false, ◌&&◌, ◌||◌, ◌==◌, MatchBool};
+ghost use Rattle.std.specs.Prelude.{◌≡◌, ℕ, Bool, ◌<◌, ◌≤◌, true, false, ◌&&◌, ◌||◌, ◌==◌, MatchBool};
 ghost use Rattle.access.specs.Operations.{has as has_bit};
-ghost use Rattle.access.specs.Contexts.{inside, member, has_above, empty, meet};
+ghost use Rattle.access.specs.Contexts.{inside, member, marked, has_above, empty, meet};
 
 use crate::numbers::index_in;
 use std::array;
@@ -45,6 +45,14 @@ impl ContextSet {
         let mut words = self.words;
         words[i / 64] |= 1 << (i % 64);
         ContextSet { words }
+    }
+
+    /// A set is told by its members: where these are the contexts that pass a test, it is the set that the test gives.
+    pub fn is_its_members(self)
+        ensures { (test : ℕ → Bool) → ((c : ℕ) → member self c ≡ (inside 256 c && test c)) → self ≡ marked test }
+    {
+        // To read the words is to learn that each has 64 bits.
+        let [_first, _second, _third, _fourth] = self.words;
     }
 
     /// The members of both.

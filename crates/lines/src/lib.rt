@@ -1,0 +1,5 @@
+//! A line of a policy text as its keyword and words.
+
+#![tactic(auto)]
+
+pub mod line;

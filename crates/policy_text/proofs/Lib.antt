@@ -1,0 +1,4 @@
+pub mod Labels
+pub mod Declaring
+pub mod Calling
+pub mod Reading

@@ -1,0 +1,5 @@
+pub mod Faults
+pub mod Reading
+pub mod Lines
+pub mod Texts
+pub mod Shown

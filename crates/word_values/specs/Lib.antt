@@ -1,0 +1,4 @@
+pub mod Flaws
+pub mod Numbers
+pub mod Operations
+pub mod Templates
