@@ -7,14 +7,15 @@ use Rattle.search.specs.declared.Place.{Place}
 use Rattle.moves.specs.declared.step.Step.{Step}
 use Rattle.properties.specs.declared.property.Property.{Property}
 use Rattle.judge.specs.declared.verdict.Verdict.{Verdict}
-use Rattle.sheet.specs.Book.{Book}
-use Rattle.sheet.specs.Judging.{judging_refusal, VerdictOn}
+use Rattle.sheet.specs.Book.{Book, refusal}
+use Rattle.sheet.specs.declared.request.Request.TheVariants.{Judge}
+use Rattle.sheet.specs.Judging.{VerdictOn}
 use Rattle.report.specs.Parts.{part, InFront}
 
 -- the refusal of reporting property k, over so much lent memory: that of judging it, and else that report memory is too short
 abbrev pub reporting_refusal : Book → ℕ → ℕ → ℕ → ℕ → ℕ → Option Refusal
 reporting_refusal b k ticks places steps bytes =
-    option_or (judging_refusal b k ticks places steps) (cond (nat_lt bytes 16384) (Some ShortMemory) None)
+    option_or (refusal b (Judge k ticks places steps)) (cond (nat_lt bytes 16384) (Some ShortMemory) None)
 
 -- a verdict on the property, with the lent steps before and after, is written as part k in front of report memory
 pub record Reported (b : Book) (p : Property) (k : ℕ) (names : List (List ℕ)) (ss ss' : List Step) (ms ms' : List ℕ) (count : ℕ) : Type 0 where
