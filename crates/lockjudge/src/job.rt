@@ -1,0 +1,108 @@
+//! The job: from a policy text to its report.
+ghost use Rattle.std.specs.Prelude.{◌≡◌, ℕ, true, List, length, is_some, OnOk};
+ghost use Rattle.access.specs.Contexts.{inside};
+ghost use Rattle.std.specs.Io.KnownBytes.{Appends};
+ghost use Rattle.sheet.specs.Judging.{Fit};
+ghost use Rattle.sheet.specs.Stands.{shown, Stands};
+ghost use Rattle.policy_text.specs.Texts.{text_read};
+ghost use Rattle.lockjudge.specs.Output.{IsPart, Written, Prints};
+ghost use Rattle.lockjudge.specs.Lent.{Lent};
+
+use access::operation::Operation;
+use access::policy::Policy;
+use moves::step::Step;
+use names::names::Names;
+use policy_text::read::read;
+use report::part::REPORT_MEMORY;
+use report::reporting::{next_property, report_property};
+use search::Place;
+use sheet::sheet::Sheet;
+use std::io;
+use std::io::Write;
+
+/// How many contexts a text has at most; the working memory is what judging asks for so many.
+const MOST_CONTEXTS: usize = 256;
+
+/// Writes the part of one property that stands.
+fn write_part<P: Policy, W: Write>(
+    sheet: &Sheet<P>,
+    names: &Names,
+    number: u16,
+    ticks: &mut [u8],
+    places: &mut [Place],
+    steps: &mut [Step],
+    memory: &mut [u8],
+    out: &mut W,
+) -> io::Result<()>
+    requires sheet { Stands P.Policy.meaning (shown P.Policy.meaning sheet.now) sheet.now × Fit (shown P.Policy.meaning sheet.now) }
+    requires lent { Lent (length ticks.old) (length places.old) (length steps.old) (length memory.old) }
+    requires property { (inside 64 number ≡ true) × (is_some ((shown P.Policy.meaning sheet.now).properties number) ≡ true) }
+    ensures { OnOk result ((bytes : List ℕ) × Appends (W.contents out.old) (W.contents out.new) bytes × IsPart (shown P.Policy.meaning sheet.now) names.now number bytes) }
+{
+    let len = report_property(sheet, names, number, ticks, places, steps, memory).unwrap();
+    out.write_all(&memory[..len])
+}
+
+/// Writes the parts of the properties that stand, by rising number.
+fn write_parts<P: Policy, W: Write>(
+    sheet: &Sheet<P>,
+    names: &Names,
+    ticks: &mut [u8],
+    places: &mut [Place],
+    steps: &mut [Step],
+    memory: &mut [u8],
+    out: &mut W,
+) -> io::Result<()>
+    requires sheet { Stands P.Policy.meaning (shown P.Policy.meaning sheet.now) sheet.now × Fit (shown P.Policy.meaning sheet.now) }
+    requires lent { Lent (length ticks.old) (length places.old) (length steps.old) (length memory.old) }
+    ensures { OnOk result (Written (shown P.Policy.meaning sheet.now) names.now (W.contents out.old) (W.contents out.new)) }
+{
+    let mut after = 0;
+    while let Some(number) = next_property(sheet, after) {
+        write_part(sheet, names, number, ticks, places, steps, memory, out)?;
+        after = number;
+    }
+    Ok(())
+}
+
+/// Writes the report of a sheet, one part at a time.
+fn write_report<P: Policy, W: Write>(sheet: &Sheet<P>, names: &Names, out: &mut W) -> io::Result<()>
+    requires { Stands P.Policy.meaning (shown P.Policy.meaning sheet.now) sheet.now × Fit (shown P.Policy.meaning sheet.now) }
+    ensures { OnOk result (Written (shown P.Policy.meaning sheet.now) names.now (W.contents out.old) (W.contents out.new)) }
+{
+    let unwritten = Step {
+        subject: 0,
+        target: 0,
+        operation: Operation::Read,
+        origin: 0,
+    };
+    let mut ticks = [0; 2 * MOST_CONTEXTS];
+    let mut places = [Place::default(); 2 * MOST_CONTEXTS];
+    let mut steps = [unwritten; MOST_CONTEXTS];
+    let mut memory = [0; REPORT_MEMORY];
+    write_parts(
+        sheet,
+        names,
+        &mut ticks,
+        &mut places,
+        &mut steps,
+        &mut memory,
+        out,
+    )
+}
+
+/// Judges the controller that a text describes and writes the report, or writes the text's fault; says whether there was a report.
+pub fn judge_text<W: Write>(text: &[u8], out: &mut W) -> io::Result<bool>
+    ensures { OnOk result ((bytes : List ℕ) × Appends (W.contents out.old) (W.contents out.new) bytes × Prints (text_read text.now) bytes) }
+{
+    match read(text) {
+        Ok(controller) => {
+            write_report(&controller.sheet, &controller.names, out)?;
+            Ok(true)
+        }
+        Err(fault) => {
+            writeln!(out, "{fault}")?;
+            Ok(false)
+        }
+    }
+}
