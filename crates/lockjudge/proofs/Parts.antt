@@ -1,5 +1,5 @@
 -- A property that stands is reported, and parts make the report.
-use Rattle.std.proofs.Common.{◌≡◌, ℕ, ◌≤◌, Bool, true, false, not, List, [], ◌∷◌, ◌++◌, length, take, drop, is_some, Some, None, Ok, Err, IsOk, OnOk, Option, Result, refl, sym, ap, ◌∙◌, subst, arith}
+use Rattle.std.proofs.Common.{◌≡◌, ℕ, ◌≤◌, true, false, List, [], ◌++◌, length, take, drop, is_some, Some, None, Ok, Err, IsOk, OnOk, Option, Result, refl, sym, ap, ◌∙◌, subst, arith}
 use Rattle.std.proofs.lemmas.Bool.Decides.{nat_tests}
 use Rattle.std.proofs.lemmas.List.{length-append, append-nil, append_assoc}
 use Rattle.std.proofs.Math.Seq.{take-append_seam}
@@ -11,7 +11,7 @@ use Rattle.search.specs.declared.Place.{Place}
 use Rattle.moves.specs.declared.step.Step.{Step}
 use Rattle.properties.specs.declared.property.Property.{Property}
 use Rattle.sheet.specs.Book.{Book, short}
-use Rattle.report.specs.Parts.{part, InFront}
+use Rattle.report.specs.Parts.{part}
 use Rattle.report.specs.Reporting.{reporting_refusal, Reports, NoneAbove, IsNext}
 use Rattle.lockjudge.specs.Output.{IsPart, ReportAbove, over, next, Written}
 use Rattle.lockjudge.specs.Lent.{Lent}

@@ -1,5 +1,5 @@
 //! The job: from a policy text to its report.
-ghost use Rattle.std.specs.Prelude.{◌≡◌, ℕ, true, List, length, is_some, OnOk};
+ghost use Rattle.std.specs.Prelude.{◌≡◌, ℕ, true, List, length, is_some, is_ok, OnOk, IfOk};
 ghost use Rattle.access.specs.Contexts.{inside};
 ghost use Rattle.std.specs.Io.KnownBytes.{Appends};
 ghost use Rattle.sheet.specs.Judging.{Fit};
@@ -93,7 +93,8 @@ fn write_report<P: Policy, W: Write>(sheet: &Sheet<P>, names: &Names, out: &mut 
 
 /// Judges the controller that a text describes and writes the report, or writes the text's fault; says whether there was a report.
 pub fn judge_text<W: Write>(text: &[u8], out: &mut W) -> io::Result<bool>
-    ensures { OnOk result ((bytes : List ℕ) × Appends (W.contents out.old) (W.contents out.new) bytes × Prints (text_read text.now) bytes) }
+    ensures printed { OnOk result ((bytes : List ℕ) × Appends (W.contents out.old) (W.contents out.new) bytes × Prints (text_read text.now) bytes) }
+    ensures told { IfOk result (λ reported. reported ≡ is_ok (text_read text.now)) }
 {
     match read(text) {
         Ok(controller) => {
