@@ -1,0 +1,5 @@
+//! What the definitions of a policy text's lines and words promise.
+
+#![tactic(auto)]
+
+pub mod laws;
