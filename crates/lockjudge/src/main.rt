@@ -2,13 +2,11 @@
 
 #![tactic(auto)]
 
-mod job;
-
-use crate::job::judge_text;
 use policy_text::read::MOST_BYTES;
 use std::io;
 use std::io::Read;
 use std::process::ExitCode;
+use text_report::job::judge_text;
 
 fn main(rt: HostRuntime) -> io::Result<ExitCode> {
     // One byte more than a text may have tells that it is too long.

@@ -1,8 +1,8 @@
 use Rattle.std.proofs.Common.{length, take, sym}
 use Rattle.std.proofs.lemmas.List.{length-take-le}
 use Rattle.sheet.specs.Stands.{shown}
-use Rattle.lockjudge.proofs.Parts.{is_reported, is_part, on_ok}
-use Rattle.lockjudge.proofs.job.write_part.Goals as goal
+use Rattle.text_report.proofs.Parts.{is_reported, is_part, on_ok}
+use Rattle.text_report.proofs.job.write_part.Goals as goal
 
 pub unwrap-len-requires : goal.unwrap-len-requires
 unwrap-len-requires g c =

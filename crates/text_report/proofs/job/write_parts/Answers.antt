@@ -1,7 +1,7 @@
 use Rattle.std.proofs.Common.{arith}
 use Rattle.sheet.specs.Stands.{shown}
-use Rattle.lockjudge.proofs.Parts.{next_ranged, none_yet, one_more, all_written}
-use Rattle.lockjudge.proofs.job.write_parts.Goals as goal
+use Rattle.text_report.proofs.Parts.{next_ranged, none_yet, one_more, all_written}
+use Rattle.text_report.proofs.job.write_parts.Goals as goal
 
 pub loop-number-init : goal.loop-number-init
 loop-number-init g c = none_yet _ _ _

@@ -1,5 +1,5 @@
-use Rattle.lockjudge.proofs.Texts.{was_read, stands_shown, fit_shown}
-use Rattle.lockjudge.proofs.job.judge_text.Goals as goal
+use Rattle.text_report.proofs.Texts.{was_read, stands_shown, fit_shown}
+use Rattle.text_report.proofs.job.judge_text.Goals as goal
 
 pub write_report-requires : goal.write_report-requires
 write_report-requires g c =

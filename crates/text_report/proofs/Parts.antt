@@ -13,8 +13,8 @@ use Rattle.properties.specs.declared.property.Property.{Property}
 use Rattle.sheet.specs.Book.{Book, short}
 use Rattle.report.specs.Parts.{part}
 use Rattle.report.specs.Reporting.{reporting_refusal, Reports, NoneAbove, IsNext}
-use Rattle.lockjudge.specs.Output.{IsPart, ReportAbove, over, next, Written}
-use Rattle.lockjudge.specs.Lent.{Lent}
+use Rattle.text_report.specs.Output.{IsPart, ReportAbove, over, next, Written}
+use Rattle.text_report.specs.Lent.{Lent}
 
 module _ (b : Book) (k : ℕ) (names : List (List ℕ)) (ticks : ℕ) (ps ps' : List Place) (ss ss' : List Step) (ms ms' : List ℕ)
     (few : b.policy.contexts ≤ 256) (lent : Lent ticks (length ps) (length ss) (length ms)) (ranged : inside 64 k ≡ true) (stands : is_some (b.properties k) ≡ true) where

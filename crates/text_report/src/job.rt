@@ -5,8 +5,8 @@ ghost use Rattle.std.specs.Io.KnownBytes.{Appends};
 ghost use Rattle.sheet.specs.Judging.{Fit};
 ghost use Rattle.sheet.specs.Stands.{shown, Stands};
 ghost use Rattle.policy_text.specs.Texts.{text_read};
-ghost use Rattle.lockjudge.specs.Output.{IsPart, Written, Prints};
-ghost use Rattle.lockjudge.specs.Lent.{Lent};
+ghost use Rattle.text_report.specs.Output.{IsPart, Written, Prints};
+ghost use Rattle.text_report.specs.Lent.{Lent};
 
 use access::operation::Operation;
 use access::policy::Policy;

@@ -1,7 +1,7 @@
 use Rattle.std.proofs.Common.{◌-◌}
 use Rattle.sheet.specs.Stands.{shown}
-use Rattle.lockjudge.proofs.Parts.{Going}
-use Rattle.lockjudge.proofs.job.write_parts.Given as goal
+use Rattle.text_report.proofs.Parts.{Going}
+use Rattle.text_report.proofs.job.write_parts.Given as goal
 
 abbrev pub invariant-loop-number : goal.invariant-loop-number
 invariant-loop-number g l = Going (shown g.P.Policy.meaning l.sheet) l.names (g.W.Write.contents l.fn.out) (g.W.Write.contents l.out) l.after

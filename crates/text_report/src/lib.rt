@@ -1,0 +1,5 @@
+//! From a policy text to its report.
+
+#![tactic(auto)]
+
+pub mod job;
