@@ -5,6 +5,7 @@ use Rattle.lines.specs.Lines.{Said, context, constrain, vector, grant, property}
 use Rattle.lines.specs.declared.line.Line.{Line}
 use Rattle.lines.specs.declared.line.Line.TheVariants as line
 
+-- the words of a line of the program, by its keyword
 abbrev pub said : Line → Said
 said (line.Context name level owner) = context (seen name) (seen level) (seen owner)
 said (line.Constrain operations) = constrain (left operations)

@@ -62,6 +62,7 @@ with_call p q = record { names = p.names; level = p.level; owner = p.owner; cons
 abbrev pub called : Reading → Request → Result Reading Flaw
 called p q = unless_refused (refusal (book_of p) q) (Ok (with_call p q))
 
+-- what comes of a line that may stand where it does
 abbrev pub followed : Reading → Said → Result Reading Flaw
 followed p (context name level owner) = declared p name level owner
 followed p (constrain operations) = constrained p operations

@@ -18,6 +18,7 @@ pub record Reading : Type 0 where
   pub constrained : ℕ
   pub calls : List Request
 
+-- before the first line
 abbrev pub nothing : Reading
 nothing = record { names = []; level = λ c. 0; owner = λ c. 0; constrained = 0; calls = [] }
 

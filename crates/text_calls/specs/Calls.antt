@@ -26,6 +26,7 @@ setting_call names b subject target added =
     then (context_in names target) (λ t.
     then (operations_in added) (λ ops. Ok (Set s t (record { bits = bit_or (b.policy.written s t) ops.bits })))))
 
+-- a grant by its two sets and its operations
 abbrev pub grant_in : List (List ℕ) → WordAt → WordAt → List WordAt → Result Grant Flaw
 grant_in names subjects targets granted =
     then (set_in names subjects) (λ s.
@@ -43,6 +44,7 @@ abbrev pub second_in : List (List ℕ) → Option WordAt → Result ContextSet F
 second_in names None = Ok (marked (λ c. false))
 second_in names (Some w) = set_in names w
 
+-- a property by its template and its sets
 abbrev pub property_in : List (List ℕ) → WordAt → WordAt → Option WordAt → Result Property Flaw
 property_in names template first second =
     then (template_in template) (λ t.

@@ -21,5 +21,6 @@ PartsLaw = (mark : ℕ) (bytes : List ℕ) → AreParts mark bytes (parts mark b
 abbrev pub StandsIn : List ℕ → WordAt → Type 0
 StandsIn line w = take (length w.bytes) (drop (w.column - 1) line) ≡ w.bytes
 
+-- each word of a line stands at its column
 abbrev pub ColumnsLaw : Type 0
 ColumnsLaw = (line : List ℕ) → All (StandsIn line) (words_of line)

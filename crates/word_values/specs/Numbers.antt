@@ -21,6 +21,7 @@ worth value (b ∷ bs) = worth (10 * value + (b - 48)) bs
 abbrev pub number_of : List ℕ → Option ℕ
 number_of w = cond (unpadded w && (list_all digit w && nat_le (worth 0 w) 999)) (Some (worth 0 w)) None
 
+-- the number that a word is
 abbrev pub number_in : WordAt → Result ℕ Flaw
 number_in w = ok_or (number_of w.bytes) (at_word w UnfitWord)
 

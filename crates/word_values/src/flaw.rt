@@ -1,4 +1,8 @@
 //! What is wrong with a line.
+ghost use Rattle.std.specs.Prelude.{◌≡◌};
+ghost use Rattle.words.specs.Left.{seen};
+ghost use Rattle.word_values.specs.Flaws.{of_line, at_word};
+
 use access::refusal::Refusal;
 use words::word::Word;
 
@@ -8,10 +12,6 @@ pub struct Flaw {
     pub refusal: Refusal,
     pub column: usize,
 }
-
-ghost use Rattle.std.specs.Prelude.{◌≡◌};
-ghost use Rattle.words.specs.Left.{seen};
-ghost use Rattle.word_values.specs.Flaws.{of_line, at_word};
 
 impl Flaw {
     pub fn of_line(refusal: Refusal) -> Flaw

@@ -13,5 +13,6 @@ seen w = record { column = w.column; bytes = w.bytes.now }
 abbrev pub words_from : List ℕ → ℕ → List WordAt
 words_from line at = cond (nat_le at (length line)) (placed (at + 1) (parts 32 (drop at line))) []
 
+-- the words that the program is yet to take
 abbrev pub left : Words → List WordAt
 left w = words_from w.line.now w.at
