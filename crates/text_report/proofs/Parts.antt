@@ -38,9 +38,10 @@ module _ (b : Book) (k : ℕ) (names : List (List ℕ)) (ticks : ℕ) (ps ps' : 
           let told = h.1 p is in
           let bytes = part k told.verdict ss' names in
           let w : ms' ≡ bytes ++ drop n ms = told.in_front.written in
-          let count : n ≡ length bytes = told.in_front.all in
-          ( let l = ap length w ∙ length-append bytes (drop n ms) in omega arith,
-            record { property = p; stands = is; verdict = told.verdict; lent = ss; steps = ss'; right = told.right; says = rw (w, count) (take-append_seam bytes _) })
+          let count : n ≡ length bytes = told.in_front.all in (
+            let l = ap length w ∙ length-append bytes (drop n ms) in omega arith,
+            record { property = p; stands = is; verdict = told.verdict; lent = ss; steps = ss'; right = told.right; says = rw (w, count) (take-append_seam bytes _) },
+          )
       go None is none = absurd (grind arith)
 
 -- what follows of a success
