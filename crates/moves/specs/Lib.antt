@@ -1,3 +1,4 @@
 pub mod Grants
 pub mod Regimes
 pub mod Moved
+pub mod Outlines

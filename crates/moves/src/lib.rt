@@ -4,6 +4,7 @@
 
 pub mod grant;
 pub mod movement;
+pub mod outline;
 pub mod possible;
 pub mod regime;
 pub mod step;

@@ -1,10 +1,10 @@
 //! Moves.
-ghost use Rattle.std.specs.Prelude.{◌≡◌, not, ◌==◌, bit_and};
-ghost use Rattle.verdicts.specs.Possible.{possible as possible_on, makeable};
+ghost use Rattle.std.specs.Prelude.{◌≡◌};
+ghost use Rattle.verdicts.specs.Possible.{makeable};
 ghost use Rattle.moves.specs.Regimes.{meaning_of, grants_of};
 ghost use Rattle.moves.specs.Moved.{moved};
 
-use crate::regime::Regime;
+use crate::outline::Outlined;
 use access::operation_set::OperationSet;
 use access::policy::Policy;
 
@@ -17,17 +17,10 @@ pub enum Move {
     Contact(u16, u16),
 }
 
-impl<P: Policy> Regime<'_, P> {
-    /// Whether some operation of a set is possible on a pair.
-    fn can(&self, s: u16, t: u16, among: OperationSet) -> bool
-        ensures { result ≡ not (bit_and among.bits (possible_on (meaning_of P.Policy.meaning self.now) (grants_of self.now) s t) == 0) }
-    {
-        !among.and(self.possible(s, t)).is_empty()
-    }
-
+impl<P: Policy> Outlined<'_, P> {
     /// Whether some legal run makes a move.
     pub fn makes(&self, chosen: Move) -> bool
-        ensures { result ≡ makeable (meaning_of P.Policy.meaning self.now) (grants_of self.now) (moved chosen) }
+        ensures { result ≡ makeable (meaning_of P.Policy.meaning self.now.regime.now) (grants_of self.now.regime.now) (moved chosen) }
     {
         match chosen {
             Move::Transition(c, d) => self.can(c, d, OperationSet::transition()),
@@ -35,7 +28,7 @@ impl<P: Policy> Regime<'_, P> {
                 self.can(g, k, OperationSet::write_like())
                     || self.can(k, g, OperationSet::read_like())
             }
-            Move::Contact(s, t) => !self.possible(s, t).is_empty(),
+            Move::Contact(s, t) => !self.regime.possible(s, t).is_empty(),
         }
     }
 }

@@ -3,12 +3,12 @@ ghost use Rattle.std.specs.Prelude.{◌≡◌};
 ghost use Rattle.moves.specs.Moved.{moved};
 ghost use Rattle.moves.specs.Regimes.{meaning_of};
 ghost use Rattle.activities.specs.Nodes.{phase, context, move_of};
-ghost use Rattle.seek.specs.Charts.{problem_of};
 
 use access::context_set::ContextSet;
 use access::policy::Policy;
 use activities::activity::Activity;
 use moves::movement::Move;
+use moves::outline::Outlined;
 use moves::regime::Regime;
 use search::Graph;
 use std::marker::PhantomData;
@@ -17,9 +17,11 @@ use std::marker::PhantomData;
 #[derive(Drop)]
 pub(crate) struct Chart<'a, A, P> {
     pub(crate) regime: &'a Regime<'a, P>,
+    outlined: Outlined<'a, P>,
     from: ContextSet,
     to: ContextSet,
     activity: PhantomData<A>,
+    ghost same: { outlined.regime.now ≡ regime.now },
 }
 
 impl<'a, A: Activity, P: Policy> Chart<'a, A, P> {
@@ -35,6 +37,7 @@ impl<'a, A: Activity, P: Policy> Chart<'a, A, P> {
     {
         Chart {
             regime,
+            outlined: Outlined::new(regime),
             from,
             to,
             activity: PhantomData,
@@ -66,6 +69,8 @@ impl<'a, A: Activity, P: Policy> Chart<'a, A, P> {
 }
 
 impl<A: Activity, P: Policy> Graph for Chart<'_, A, P> {
+    ghost use Rattle.seek.specs.Charts.{problem_of};
+
     ghost problem = { problem_of A.Activity.kind P.Policy.meaning };
 
     fn nodes(&self) -> u16 {
@@ -73,7 +78,7 @@ impl<A: Activity, P: Policy> Graph for Chart<'_, A, P> {
     }
 
     fn edge(&self, from: u16, to: u16) -> bool {
-        self.phase_of(from) <= self.phase_of(to) && self.regime.makes(self.move_between(from, to))
+        self.phase_of(from) <= self.phase_of(to) && self.outlined.makes(self.move_between(from, to))
     }
 
     fn source(&self, node: u16) -> bool {
