@@ -90,7 +90,7 @@ fn entering() -> [Named; 11] {
 }
 
 /// Changes that are withdrawn and adopted.
-fn changing() -> [Named; 14] {
+fn changing() -> [Named; 15] {
     let write = OperationSet::from(Operation::Write);
     let written = Request::AskWritten {
         subject: MAINT,
@@ -107,6 +107,7 @@ fn changing() -> [Named; 14] {
         ),
         ("judge property 1", judge(1, 10)),
         ("withdraw", Request::Withdraw),
+        ("judge property 1", judge(1, 10)),
         ("what is written of maint on opening", written),
         ("open a change", Request::Open),
         ("give maint write on opening", set(MAINT, OPENING, write)),
