@@ -1,15 +1,15 @@
 -- The members of a set of contexts, by its words.
-use Rattle.std.proofs.Common.{◌≡◌, ℕ, zero, suc, ◌+◌, ◌-◌, ◌*◌, ◌/◌, ◌%◌, ◌^◌, ◌<◌, ◌≤◌, Bool, true, false, not, ◌&&◌, ◌||◌, T, eqb, ltb, List, length, get_or, set, Some, None, sym, refl, ap, ◌∙◌, subst, ap₂, ⊎_elim, arith, get_or-set_other, get_or-set_same, shr-shr, w64, div-lt_iff_lt-mul, pow_pos, MatchBool}
+use Rattle.std.proofs.Common.{◌≡◌, ℕ, zero, suc, ◌+◌, ◌-◌, ◌*◌, ◌/◌, ◌%◌, ◌^◌, ◌<◌, ◌≤◌, Bool, true, false, ◌&&◌, ◌||◌, T, eqb, ltb, List, length, get_or, set, Some, None, sym, refl, ap, ◌∙◌, subst, ap₂, ⊎_elim, arith, get_or-set_other, get_or-set_same, shr-shr, w64, div-lt_iff_lt-mul, div-le_self, pow_pos, Option}
 use lib.Bits.{bit_and, bit_or}
-use Rattle.std.specs.List.{enumerate_from, HoldsAt, AllWithin}
+use Rattle.std.specs.Int.{trailing_zeros}
+use Rattle.std.specs.Option.{is_some}
 use Rattle.std.proofs.lemmas.Bool.{cases_eq, cases_lt, cases_Bool, both_ways, false_from_ne_true, eq-eqb, ne_eqb, lt-ltb, le-ltb, and_parts, and_from, and_left, and_right, or_from, or_left, or_right}
 use Rattle.std.proofs.lemmas.Bool.Decides.{nat_tests}
-use Rattle.std.proofs.lemmas.List.FromFn.{length-enumerate_from, get_or-enumerate_from}
-use Rattle.std.proofs.lemmas.Nat.Bits.{bit_at_set_same, bit_at_set_other, bit_at_above}
+use Rattle.std.proofs.lemmas.Nat.Bits.{bit_at_set_same, bit_at_set_other, bit_at_above, bit_at-trailing_zeros}
 use Rattle.access.specs.Operations.{has}
-use Rattle.access.specs.Contexts.{inside, index_of, member, some_to, has_above}
+use Rattle.access.specs.Contexts.{inside, index_of, member, some_to, has_above, FirstAbove}
 use Rattle.access.specs.declared.context_set.ContextSet.{ContextSet}
-use Rattle.access.proofs.Bits.{has_and, has_some, has_below}
+use Rattle.access.proofs.Bits.{has_and, has_below}
 use Rattle.access.proofs.Tests.{T_true}
 
 -- the bit of context d
@@ -138,34 +138,52 @@ unfolding some_to
 some_no zero p h = refl
 some_no (suc n) p h = or_from (p (suc n)) (some_to n p) (h (suc n)) (some_no n p h)
 
--- some word, or none, has a bit whose context is above n
-abbrev pub BitAbove : ℕ → ℕ × ℕ → Type 0
-BitAbove n p = (j : ℕ) × (n - 64 * p.0 ≤ j) × (j < 64) × (has p.1 j ≡ true)
+-- the words before i have no member above n
+abbrev pub NoneBefore : ℕ → ContextSet → ℕ → Type 0
+NoneBefore n s i = (d : ℕ) → n < d → d ≤ 64 * i → member s d ≡ false
 
-abbrev pub NoBitAbove : ℕ → ℕ × ℕ → Type 0
-NoBitAbove n p = (j : ℕ) → n - 64 * p.0 ≤ j → has p.1 j ≡ false
+module _ (n : ℕ) (s : ContextSet) (i : ℕ) (before : NoneBefore n s i) where
+  abbrev word : ℕ
+  word = get_or s.words i 0
 
-pub above_is : (r : Bool) (n : ℕ) (s : ContextSet) → length s.words ≡ 4
-    → MatchBool r ((k : ℕ) × (k < length (enumerate_from 0 s.words)) × HoldsAt (BitAbove n) (enumerate_from 0 s.words) k) (AllWithin (NoBitAbove n) (enumerate_from 0 s.words) 0 (length (enumerate_from 0 s.words)))
-    → r ≡ has_above n s
-above_is true n s len (k, l, h) =
-    let b = length-enumerate_from 0 s.words in
-    let y : BitAbove n (0 + k, get_or s.words k 0) = subst (BitAbove n) (get_or-enumerate_from 0 s.words k (0, 0) (omega arith)) (h (0, 0)) in
-    let i : ℕ = 64 * k + y.0 in
-    let w : i / 64 ≡ k = omega (arith, y.2) in
-    let z : i % 64 ≡ y.0 = omega (arith, y.2) in
-    let m : member s (i + 1) ≡ true = member_at s i (omega (arith, y.2)) ∙ ap₂ (λ k j. has (get_or s.words k 0) j) w z ∙ y.3 in
-    sym (some_yes 256 (λ c. ltb n c && member s c) (i + 1) (omega arith) (omega (arith, y.2)) (and_from _ _ (lt-ltb n (i + 1) (omega (arith, y.1))) m))
-above_is false n s len h =
-    let b = length-enumerate_from 0 s.words in
-    let no : (d : ℕ) → n < d → member s d ≡ false = (λ d l. member_no s d (λ low high.
-    let k : ℕ = (d - 1) / 64 in
-    subst (NoBitAbove n) (get_or-enumerate_from 0 s.words k (0, 0) (omega arith)) (h k (0, 0) (omega arith) (omega arith)) ((d - 1) % 64) (omega arith))) in
+  -- a context that is above n and up to bit j of word i
+  none_to : (j : ℕ) → ((k : ℕ) → n - 64 * i ≤ k → k < j → has word k ≡ false) → j ≤ 64 → (d : ℕ) → n < d → d ≤ 64 * i + j → member s d ≡ false
+  none_to j none few d l m =
+      ⊎_elim
+      (λ (h : 64 * i < d).
+      let e : (d - 1) / 64 ≡ i = omega arith in
+      member_no s d (λ low high. ap (λ k. has (get_or s.words k 0) ((d - 1) % 64)) e ∙ none ((d - 1) % 64) (omega arith) (omega arith)))
+      (λ (h : d ≤ 64 * i). before d l h)
+      (cases_lt (64 * i) d)
+
+  pub none_through : ((k : ℕ) → n - 64 * i ≤ k → has word k ≡ false) → NoneBefore n s (i + 1)
+  none_through none d l m = none_to 64 (λ k h _. none k h) (omega arith) d l (omega (arith, m))
+
+  pub first_told : (j : ℕ) → i < 4 → n - 64 * i ≤ j → j < 64 → has word j ≡ true → ((k : ℕ) → n - 64 * i ≤ k → k < j → has word k ≡ false) → FirstAbove n s (Some (64 * i + j + 1))
+  first_told j low from few h none =
+      let w : (64 * i + j) / 64 ≡ i = omega arith in
+      let z : (64 * i + j) % 64 ≡ j = omega arith in
+      (
+        omega arith,
+        member_at s (64 * i + j) (omega arith) ∙ ap₂ (λ k b. has (get_or s.words k 0) b) w z ∙ h,
+        λ d l m. none_to j none (omega arith) d l (omega arith),
+      )
+
+-- past the last word there is no member
+pub none_at_all : (n : ℕ) (s : ContextSet) (i : ℕ) → 4 ≤ i → NoneBefore n s i → FirstAbove n s None
+none_at_all n s i past before d l = member_no s d (λ low high. sym (member_in s d low high) ∙ before d l (omega arith))
+
+-- whether there is a first one
+pub some_above : (n : ℕ) (s : ContextSet) (r : Option ℕ) → FirstAbove n s r → is_some r ≡ has_above n s
+some_above n s None none =
     sym (some_no 256 (λ c. ltb n c && member s c) (λ d.
     ⊎_elim
-    (λ (l : n < d). and_right (ltb n d) (member s d) (no d l))
+    (λ (l : n < d). and_right (ltb n d) (member s d) (none d l))
     (λ (g : d ≤ n). and_left (ltb n d) (member s d) (le-ltb n d g))
     (cases_lt n d)))
+some_above n s (Some c) first =
+    let k = member_inside s c first.1 in
+    sym (some_yes 256 (λ d. ltb n d && member s d) c k.0 k.1 (and_from _ _ (lt-ltb n c first.0) first.1))
 
 -- where no member is above n, each is a context
 pub none_above : (n : ℕ) (s : ContextSet) → has_above n s ≡ false → (c : ℕ) → T (member s c) → T (inside n c)
@@ -188,14 +206,24 @@ above_zero (suc n) p q h = ap₂ (λ a b. a || b) (ap (λ b. b && p (suc n)) (lt
 pub low_none : (w k : ℕ) → w < 2 ^ k → (j : ℕ) → k ≤ j → has w j ≡ false
 low_none w k f j l = ap (λ x. eqb x 1) (bit_at_above w k j f l)
 
-from_some : (w k : ℕ) → w < 2 ^ 64 → (w / 2 ^ k ≡ 0 → ⊥) → (j : ℕ) × (k ≤ j) × (j < 64) × (has w j ≡ true)
-from_some w k f h =
-    let s = has_some (w / 2 ^ k) h in
-    let e : T (has w (k + s.0)) = subst T (ap (λ x. eqb (x % 2) 1) (shr-shr w k s.0)) s.1 in
-    (k + s.0, omega arith, has_below w 64 (k + s.0) f e, T_true _ e)
+pub none_from : (w k : ℕ) → w / 2 ^ k ≡ 0 → (j : ℕ) → k ≤ j → has w j ≡ false
+none_from w k e = low_none w k (omega (arith, (div-lt_iff_lt-mul {k = 2 ^ k} {x = w} {y = 1} (pow_pos k)).0 (omega (arith, e))))
 
-pub from_told : (w k : ℕ) → w < 2 ^ 64 → MatchBool (not (eqb (w / 2 ^ k) 0)) ((j : ℕ) × (k ≤ j) × (j < 64) × (has w j ≡ true)) ((j : ℕ) → k ≤ j → has w j ≡ false)
-from_told w k f = ⊎_elim
-    (λ (e : w / 2 ^ k ≡ 0). rw (eq-eqb (w / 2 ^ k) 0 e) (low_none w k (omega (arith, (div-lt_iff_lt-mul {k = 2 ^ k} {x = w} {y = 1} (pow_pos k)).0 (omega (arith, e))))))
-    (λ n. rw (ne_eqb (w / 2 ^ k) 0 n) (from_some w k f n))
-    (cases_eq (w / 2 ^ k) 0)
+shifted : (w k o : ℕ) → has (w / 2 ^ k) o ≡ has w (k + o)
+shifted w k o = ap (λ x. eqb (x % 2) 1) (shr-shr w k o)
+
+-- the lowest of them, by trailing zeros
+pub lowest_told_from : (w k : ℕ) → w < 2 ^ 64 → (w / 2 ^ k ≡ 0 → ⊥) → let i = k + trailing_zeros w64 (w / 2 ^ k) in
+    (k ≤ i) × (i < 64) × (has w i ≡ true) × ((j : ℕ) → k ≤ j → j < i → has w j ≡ false)
+lowest_told_from w k f h =
+    let t : ℕ = trailing_zeros w64 (w / 2 ^ k) in
+    let b = bit_at-trailing_zeros w64 (w / 2 ^ k) (omega arith) (omega (arith, div-le_self w (2 ^ k))) in
+    let held : has w (k + t) ≡ true = sym (shifted w k t) ∙ ap (λ x. eqb x 1) b.1 in
+    (
+      omega arith,
+      has_below w 64 (k + t) f (subst T (sym held) tt),
+      held,
+      λ j l m.
+          let e : k + (j - k) ≡ j = omega arith in
+          sym (shifted w k (j - k) ∙ ap (has w) e) ∙ ap (λ x. eqb x 1) (b.2 (j - k) (omega arith)),
+    )

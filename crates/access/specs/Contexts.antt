@@ -1,5 +1,5 @@
 -- Contexts and sets of contexts.
-use Rattle.std.specs.Prelude.{ℕ, zero, suc, ◌+◌, ◌-◌, ◌*◌, ◌/◌, ◌%◌, Bool, false, not, cond, ◌&&◌, ◌||◌, [], ◌∷◌, Some, None, Option, nat_le, nat_lt, slice_index}
+use Rattle.std.specs.Prelude.{◌≡◌, ℕ, zero, suc, ◌+◌, ◌-◌, ◌*◌, ◌/◌, ◌%◌, ◌<◌, Bool, true, false, not, cond, ◌&&◌, ◌||◌, [], ◌∷◌, Some, None, Option, MatchOption, nat_le, nat_lt, slice_index}
 use Rattle.access.specs.Operations.{has, set_of}
 use Rattle.access.specs.declared.context_set.ContextSet.{ContextSet}
 
@@ -39,3 +39,7 @@ empty set = not (some_to 256 (member set))
 
 abbrev pub meet : ContextSet → ContextSet → Bool
 meet a b = some_to 256 (λ c. member a c && member b c)
+
+-- the lowest member of a set that is greater than n, if there is one
+abbrev pub FirstAbove : ℕ → ContextSet → Option ℕ → Type 0
+FirstAbove n set r = MatchOption r ((d : ℕ) → n < d → member set d ≡ false) (λ c. (n < c) × (member set c ≡ true) × ((d : ℕ) → n < d → d < c → member set d ≡ false))

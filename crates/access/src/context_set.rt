@@ -1,7 +1,7 @@
 //! Sets of contexts.
-ghost use Rattle.std.specs.Prelude.{◌≡◌, ℕ, Bool, ◌<◌, ◌≤◌, true, false, ◌&&◌, ◌||◌, ◌==◌, MatchBool};
+ghost use Rattle.std.specs.Prelude.{◌≡◌, ℕ, Bool, ◌<◌, ◌≤◌, true, false, ◌&&◌, ◌||◌, ◌==◌, MatchOption};
 ghost use Rattle.access.specs.Operations.{has as has_bit};
-ghost use Rattle.access.specs.Contexts.{inside, member, marked, has_above, empty, meet};
+ghost use Rattle.access.specs.Contexts.{inside, member, marked, has_above, empty, meet, FirstAbove};
 
 use crate::numbers::index_in;
 use std::array;
@@ -12,11 +12,19 @@ pub struct ContextSet {
     words: [u64; 4],
 }
 
-/// Whether a bit at `k` or above is set.
-fn any_from(word: u64, k: usize) -> bool
-    ensures { MatchBool result ((j : ℕ) × (k ≤ j) × (j < 64) × (has_bit word j ≡ true)) ((j : ℕ) → k ≤ j → has_bit word j ≡ false) }
+/// The lowest bit at `k` or above that is set.
+fn lowest_from(word: u64, k: usize) -> Option<usize>
+    ensures { MatchOption result ((j : ℕ) → k ≤ j → has_bit word j ≡ false) (λ i. (k ≤ i) × (i < 64) × (has_bit word i ≡ true) × ((j : ℕ) → k ≤ j → j < i → has_bit word j ≡ false)) }
 {
-    k < 64 && word >> k != 0
+    if k >= 64 {
+        return None;
+    }
+    let rest = word >> k;
+    if rest == 0 {
+        None
+    } else {
+        Some(k + rest.trailing_zeros() as usize)
+    }
 }
 
 impl ContextSet {
@@ -64,15 +72,25 @@ impl ContextSet {
         }
     }
 
+    /// The lowest member that is greater than `n`.
+    pub fn first_above(self, n: u16) -> Option<u16>
+        ensures { FirstAbove n self result }
+    {
+        let n = usize::from(n);
+        for i in 0..4 {
+            if let Some(j) = lowest_from(self.words[i], n.saturating_sub(64 * i)) {
+                // A bit's context is at most 256.
+                return Some((64 * i + j) as u16 + 1);
+            }
+        }
+        None
+    }
+
     /// Whether a member is greater than `n`.
     pub fn has_above(self, n: u16) -> bool
         ensures { result ≡ has_above n self }
     {
-        let n = usize::from(n);
-        self.words
-            .iter()
-            .enumerate()
-            .any(|(i, &word)| any_from(word, n.saturating_sub(64 * i)))
+        self.first_above(n).is_some()
     }
 
     pub fn is_empty(self) -> bool
