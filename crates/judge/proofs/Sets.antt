@@ -6,6 +6,7 @@ use Rattle.access.specs.Contexts.{inside, member, some_to, empty}
 use Rattle.access.specs.declared.context_set.ContextSet.{ContextSet}
 use Rattle.access.proofs.Tests.{left, right, T_true}
 use Rattle.access.proofs.ContextLaws.{inside_parts, inside_from, outside_from, member_inside}
+use Rattle.moves.proofs.Collected.{upto_more}
 use Rattle.seek.specs.Plan.{among}
 
 some_from : (n : ℕ) (p : ℕ → Bool) (d : ℕ) → 1 ≤ d → d ≤ n → T (p d) → T (some_to n p)
@@ -23,21 +24,6 @@ none_in s e c h =
     let i = member_inside s c (T_true (member s c) h) in
     let some = T_true _ (some_from 256 (member s) c i.0 i.1 h) in
     subst T (e ∙ ap not some) tt
-
-inside_other : (b d : ℕ) → 1 ≤ b → (d ≡ b → ⊥) → inside (b - 1) d ≡ inside b d
-inside_other b d low n =
-    ⊎_elim
-    (λ (e : inside (b - 1) d ≡ true). let p = inside_parts (b - 1) d e in e ∙ sym (inside_from b d p.0 (omega (arith, p.1))))
-    (λ (e : inside (b - 1) d ≡ false). e ∙ sym (outside_from b d (λ l h. subst T (sym (inside_from (b - 1) d l (omega arith)) ∙ e) tt)))
-    (cases_Bool (inside (b - 1) d))
-
--- one context further: b is in the set, or is not
-upto_more : (p set : ℕ → Bool) (b : ℕ) → 1 ≤ b → ((d : ℕ) → (d ≡ b → ⊥) → set d ≡ (inside (b - 1) d && p d)) → set b ≡ p b → (d : ℕ) → set d ≡ (inside b d && p d)
-upto_more p set b low others here d =
-    ⊎_elim
-    (λ (z : d ≡ b). subst (λ x. set x ≡ (inside b x && p x)) (sym z) (here ∙ sym (ap (λ x. x && p b) (inside_from b b low (omega arith)))))
-    (λ (z : d ≡ b → ⊥). others d z ∙ ap (λ x. x && p d) (inside_other b d low z))
-    (cases_eq d b)
 
 module _ (p set : ℕ → Bool) (b : ℕ) (low : 1 ≤ b) (so : (d : ℕ) → set d ≡ (inside (b - 1) d && p d)) where
   pub upto_skip : false ≡ p b → (d : ℕ) → set d ≡ (inside b d && p d)

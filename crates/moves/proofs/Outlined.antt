@@ -1,9 +1,9 @@
 -- What bounds the operations that grants give, entry by entry.
-use Rattle.std.proofs.Common.{◌≡◌, ℕ, suc, Bool, true, false, ◌&&◌, ◌||◌, cond, T, List, [], ◌∷◌, ◌++◌, Some, None, Option, sym, refl, ap, ◌∙◌, subst, ⊎_elim}
+use Rattle.std.proofs.Common.{◌≡◌, ℕ, suc, Bool, true, false, not, ◌&&◌, ◌||◌, cond, T, List, [], ◌∷◌, ◌++◌, Some, None, Option, sym, refl, ap, ◌∙◌, subst, ⊎_elim}
 use lib.Bits.{bit_and, bit_or, or_zero_r, and_zero_l}
-use Rattle.access.specs.Operations.{has}
-use Rattle.access.proofs.Bits.{has_none, has_and, has_or, or_assoc, same_bits}
-use Rattle.access.proofs.Tests.{left, right, both_parts}
+use Rattle.access.specs.Operations.{has, without}
+use Rattle.access.proofs.Bits.{has_none, has_and, has_or, has_without, or_assoc, same_bits}
+use Rattle.access.proofs.Tests.{left, right, both_parts, T_false}
 use Rattle.verdicts.specs.Runs.{Grant as Granting, Grants}
 use Rattle.verdicts.specs.Possible.{grant_set, granted}
 use Rattle.verdicts.proofs.Reduction.{or_has, has_both}
@@ -43,31 +43,22 @@ module _ (gs : Grants) where
       (offered_holds (λ g. g.subjects s) s t (λ g b. (both_parts (g.subjects s) (g.targets t) b).0) gs o h)
       (offered_holds (λ g. g.targets t) s t (λ g b. (both_parts (g.subjects s) (g.targets t) b).1) gs o h)
 
--- some operation of a set is possible on a pair: asked step by step, and the grants last
-module _ (among p w most given : ℕ) (h : Holds most given) where
-  abbrev wanted : ℕ
-  wanted = bit_and among (bit_or w most)
-
-  abbrev sought : ℕ
-  sought = bit_and among (bit_and p (bit_or w given))
-
-  pub asked_last : bit_and (bit_and wanted p) (bit_or w given) ≡ sought
-  asked_last = same_bits _ _ (λ o.
-      has_and (bit_and wanted p) (bit_or w given) o ∙ ap (λ b. b && has (bit_or w given) o) (has_and wanted p o ∙ ap (λ b. b && has p o) (has_and among (bit_or w most) o ∙ ap (λ b. has among o && b) (has_or w most o))) ∙ ap (λ b. ((has among o && (has w o || has most o)) && has p o) && b) (has_or w given o)
-      ∙ bits (has among o) (has p o) (has w o) (has most o) (has given o) (h o)
-      ∙ sym (has_and among (bit_and p (bit_or w given)) o ∙ ap (λ b. has among o && b) (has_and p (bit_or w given) o ∙ ap (λ b. has p o && b) (has_or w given o))))
+-- where nothing that is permitted and not written is among the most that grants give, what they give adds nothing
+module _ (p w most given : ℕ) (h : Holds most given) where
+  pub nothing_added : bit_and (without p w) most ≡ 0 → bit_and p w ≡ bit_and p (bit_or w given)
+  nothing_added e = same_bits _ _ (λ o.
+      has_and p w o ∙ bits (has p o) (has w o) (has given o) (open_not o) ∙ sym (has_and p (bit_or w given) o ∙ ap (λ b. has p o && b) (has_or w given o)))
     where
-      bits : (a p w m g : Bool) → (T g → T m) → (((a && (w || m)) && p) && (w || g)) ≡ (a && (p && (w || g)))
-      bits false p w m g f = refl
-      bits true p true m g f = refl
-      bits true false false true g f = refl
-      bits true true false true g f = refl
-      bits true p false false true f = absurd (f tt)
-      bits true false false false false f = refl
-      bits true true false false false f = refl
+      open_not : (o : ℕ) → T (has given o) → (has p o && not (has w o)) ≡ false
+      open_not o g =
+          T_false _ (λ t. subst T (has_none o) (subst (λ x. T (has x o)) e (has_both (without p w) most o (subst T (sym (has_without p w o)) t) (h o g))))
 
-  pub none_wanted : wanted ≡ 0 → sought ≡ 0
-  none_wanted e = sym asked_last ∙ ap (λ x. bit_and (bit_and x p) (bit_or w given)) e ∙ ap (λ x. bit_and x (bit_or w given)) (and_zero_l p) ∙ and_zero_l (bit_or w given)
+      bits : (p w g : Bool) → (T g → (p && not w) ≡ false) → (p && w) ≡ (p && (w || g))
+      bits false w g f = refl
+      bits true true g f = refl
+      bits true false false f = refl
+      bits true false true f = sym (f tt)
 
-  pub none_left : bit_and wanted p ≡ 0 → sought ≡ 0
-  none_left e = sym asked_last ∙ ap (λ x. bit_and x (bit_or w given)) e ∙ and_zero_l (bit_or w given)
+-- nor where nothing is permitted
+pub none_permitted : (p w given : ℕ) → p ≡ 0 → bit_and p w ≡ bit_and p (bit_or w given)
+none_permitted p w given e = ap (λ x. bit_and x w) e ∙ and_zero_l w ∙ sym (ap (λ x. bit_and x (bit_or w given)) e ∙ and_zero_l (bit_or w given))

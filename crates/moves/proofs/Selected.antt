@@ -36,7 +36,7 @@ masked : (test : Kind → Bool) → (T (test Neither) → ⊥) → (set o : ℕ)
 masked test n set o = has_and (of_kinds test) set o ∙ ap (λ b. b && has set o) (has_kinds test o n)
 
 -- a set has an operation of some kinds just where what they have in common is not empty
-some_in : (test : Kind → Bool) → (T (test Neither) → ⊥) → (set : ℕ) → not (eqb (bit_and (of_kinds test) set) 0) ≡ some_op (λ o. test (kind_of o)) set
+pub some_in : (test : Kind → Bool) → (T (test Neither) → ⊥) → (set : ℕ) → not (eqb (bit_and (of_kinds test) set) 0) ≡ some_op (λ o. test (kind_of o)) set
 some_in test n set = same_test _ _ found from
   where
     found : T (not (eqb (bit_and (of_kinds test) set) 0)) → T (some_op (λ o. test (kind_of o)) set)
@@ -65,12 +65,16 @@ module _ (m : Meaning) (gs : Grants) where
   by_kinds : (test : Kind → Bool) → (T (test Neither) → ⊥) → (s t : ℕ) → Selects s t (λ o. test (kind_of o)) (bit_and (of_kinds test) (possible m gs s t))
   by_kinds test n s t = record { is = masked test n (possible m gs s t); below = λ o h _. kind_below test o n h }
 
-  by_any : Sound m → (s t : ℕ) → Selects s t any_op (bit_and (set_of any_op 12) (possible m gs s t))
-  by_any l s t = record { is = λ o. has_and (set_of any_op 12) _ o ∙ ap (λ b. b && has (possible m gs s t) o) (has_set_of any_op 12 o) ∙ go o (has (possible m gs s t) o) (sound_twelve m gs l s t o); below = λ o _ h. sound_twelve m gs l s t o h }
+  -- only the twelve operations are possible
+  pub whole : Sound m → (s t o : ℕ) → has (bit_and (set_of any_op 12) (possible m gs s t)) o ≡ has (possible m gs s t) o
+  whole l s t o = has_and (set_of any_op 12) _ o ∙ ap (λ b. b && has (possible m gs s t) o) (has_set_of any_op 12 o) ∙ go o (has (possible m gs s t) o) (sound_twelve m gs l s t o)
     where
       go : (o : ℕ) (b : Bool) → (T b → o < 12) → ((ltb o 12 && true) && b) ≡ b
       go o true f = let h = f tt in grind (arith, nat_tests)
       go o false f = grind (arith, nat_tests)
+
+  by_any : Sound m → (s t : ℕ) → Selects s t any_op (bit_and (set_of any_op 12) (possible m gs s t))
+  by_any l s t = record { is = whole l s t; below = λ o _ h. sound_twelve m gs l s t o h }
 
   module _ {s t : ℕ} {test : ℕ → Bool} {set : ℕ} (sel : Selects s t test set) where
     none_selected : LacksAll set → NonePossible m gs s t test

@@ -1,4 +1,6 @@
 pub mod Grants
 pub mod Regimes
 pub mod Moved
+pub mod Contextual
+pub mod Done
 pub mod Outlines

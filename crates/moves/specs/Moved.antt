@@ -9,12 +9,21 @@ use Rattle.verdicts.specs.Verdicts.{Step as Stepping, Possible, Origin, AsStep}
 use Rattle.moves.specs.Grants.{doing}
 use Rattle.moves.specs.declared.movement.Move.{Move}
 use Rattle.moves.specs.declared.movement.Move.TheVariants.{Transition, Transfer, Contact}
+use Rattle.moves.specs.declared.movement.Link.{Link}
+use Rattle.moves.specs.declared.movement.Link.TheVariants.{Becoming, Giving, Getting, Doing}
 use Rattle.moves.specs.declared.step.Step.{Step}
 
 abbrev pub moved : Move → Moving
 moved (Transition c d) = transition c d
 moved (Transfer g k) = transfer g k
 moved (Contact s t) = contact s t
+
+-- the move by which one context leads to another
+abbrev pub linked : Link → ℕ → ℕ → Moving
+linked Becoming c d = transition c d
+linked Giving c d = transfer c d
+linked Getting c d = transfer d c
+linked Doing c d = contact c d
 
 abbrev pub stepped : Step → Stepping
 stepped s = record { interaction = doing s.subject s.target (number_of s.operation); origin = s.origin }

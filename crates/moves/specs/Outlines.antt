@@ -1,9 +1,12 @@
 -- What bounds the operations that grants give.
-use Rattle.std.specs.Prelude.{◌≡◌, ℕ, ◌+◌, ◌<◌, List, length, get_or, Bool, cond, T, [], ◌∷◌, Some, None, Option, bit_or}
+use Rattle.std.specs.Prelude.{◌≡◌, ℕ, Bool, true, cond, T, [], ◌∷◌, Some, None, Option, bit_or}
 use Rattle.access.specs.Operations.{has}
+use Rattle.access.specs.Contexts.{inside}
 use Rattle.access.specs.declared.operation_set.OperationSet.{OperationSet}
 use Rattle.verdicts.specs.Runs.{Grant as Granting, Grants}
 use Rattle.moves.specs.Grants.{meant}
+use Rattle.moves.specs.Contextual.{value_of}
+use Rattle.moves.specs.declared.by_context.ByContext.{ByContext}
 use Rattle.moves.specs.declared.grant.Grant.{Grant}
 
 -- the operations of a grant that passes a test
@@ -24,10 +27,6 @@ offered_by test (Some g) = operations_if test (meant g)
 abbrev pub Holds : ℕ → ℕ → Type 0
 Holds all some = (o : ℕ) → T (has some o) → T (has all o)
 
--- what is kept of the contexts below k + 1, one set for each, keeps a law
-abbrev pub ForContextsTo : ℕ → List OperationSet → (ℕ → OperationSet → Type 0) → Type 0
-ForContextsTo k kept Law = (length kept ≡ 256) × ((i : ℕ) → i < k → Law (i + 1) (get_or kept i (record { bits = 0 })))
-
--- and of the contexts 1 to 256
-abbrev pub ForContexts : List OperationSet → (ℕ → OperationSet → Type 0) → Type 0
-ForContexts kept Law = ForContextsTo 256 kept Law
+-- the operations that are kept for each context from 1 to n
+abbrev pub KeptOf : ℕ → (ℕ → ℕ) → ByContext OperationSet → Type 0
+KeptOf n sets kept = (c : ℕ) → inside n c ≡ true → (value_of kept c).bits ≡ sets c

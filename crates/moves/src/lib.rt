@@ -2,9 +2,11 @@
 
 #![tactic(auto)]
 
+mod by_context;
 pub mod grant;
 pub mod movement;
-pub mod outline;
+pub mod moves;
+mod outline;
 pub mod possible;
 pub mod regime;
 pub mod step;

@@ -1,12 +1,6 @@
 //! Moves.
 ghost use Rattle.std.specs.Prelude.{◌≡◌};
-ghost use Rattle.verdicts.specs.Possible.{makeable};
-ghost use Rattle.moves.specs.Regimes.{meaning_of, grants_of};
-ghost use Rattle.moves.specs.Moved.{moved};
-
-use crate::outline::Outlined;
-use access::operation_set::OperationSet;
-use access::policy::Policy;
+ghost use Rattle.moves.specs.Moved.{moved, linked};
 
 /// One move of an activity: a transition from one context to another, a transfer of information from one to another, or
 /// a contact, in which one does something on another.
@@ -17,18 +11,25 @@ pub enum Move {
     Contact(u16, u16),
 }
 
-impl<P: Policy> Outlined<'_, P> {
-    /// Whether some legal run makes a move.
-    pub fn makes(&self, chosen: Move) -> bool
-        ensures { result ≡ makeable (meaning_of P.Policy.meaning self.now.regime.now) (grants_of self.now.regime.now) (moved chosen) }
+/// How one context leads to another: it takes it on, gives it information, gets information from it, or does something on it.
+#[derive(Clone, Copy, Debug, PartialEq, Eq)]
+pub enum Link {
+    Becoming,
+    Giving,
+    Getting,
+    Doing,
+}
+
+impl Link {
+    /// The move by which one context leads to another.
+    pub fn between(self, from: u16, to: u16) -> Move
+        ensures { moved result ≡ linked self from to }
     {
-        match chosen {
-            Move::Transition(c, d) => self.can(c, d, OperationSet::transition()),
-            Move::Transfer(g, k) => {
-                self.can(g, k, OperationSet::write_like())
-                    || self.can(k, g, OperationSet::read_like())
-            }
-            Move::Contact(s, t) => !self.regime.possible(s, t).is_empty(),
+        match self {
+            Link::Becoming => Move::Transition(from, to),
+            Link::Giving => Move::Transfer(from, to),
+            Link::Getting => Move::Transfer(to, from),
+            Link::Doing => Move::Contact(from, to),
         }
     }
 }
