@@ -205,7 +205,7 @@ module _ (p : Problem) {t₀ t₁ : List ℕ} {s₀ s₁ : List Place} {a b : �
   pub ready : {S : ℕ → Type 0} → Went p t₀ t₁ s₀ s₁ a b d S → Ready p t₁ s₁ b d
   ready g = record { queue = g.grown.queue; «open» = g.«open»; within = g.within }
 
--- what a loop over all nodes keeps: it went over the nodes of S, on the same lent memory
+-- what a loop over nodes keeps: it went over the nodes of S, on the same lent memory
 abbrev pub Turn : Problem → Cleared → Cleared → Places Place → Places Place → ℕ → (ℕ → Type 0) → Type 0
 Turn p t t' q q' d S = Stepped p t t' q q' d S false × Lent t t' q q'
 

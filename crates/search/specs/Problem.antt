@@ -1,5 +1,5 @@
 -- Graphs on the numbers below `nodes`, and their walks.
-use Rattle.std.specs.Prelude.{◌≡◌, ℕ, suc, ◌<◌, ◌≤◌, Bool, true}
+use Rattle.std.specs.Prelude.{◌≡◌, ℕ, suc, ◌<◌, ◌≤◌, Bool, true, false, Option, Some, None, MatchOption}
 
 -- a graph, with the nodes where a walk may begin and those where it should end
 pub record Problem : Type 0 where
@@ -7,6 +7,22 @@ pub record Problem : Type 0 where
   pub edge : ℕ → ℕ → Bool
   pub source : ℕ → Bool
   pub target : ℕ → Bool
+
+-- v is the first number from `start` on, below `end`, that passes a test
+pub record FirstAt (test : ℕ → Bool) (start end v : ℕ) : Type 0 where
+  pub from : start ≤ v
+  pub below : v < end
+  pub passes : test v ≡ true
+  pub before : (u : ℕ) → start ≤ u → u < v → test u ≡ false
+
+-- the first number from `start` on, below `end`, that passes a test, or none where none does
+abbrev pub First : (ℕ → Bool) → ℕ → ℕ → Option ℕ → Type 0
+First test start end r = MatchOption r ((v : ℕ) → start ≤ v → v < end → test v ≡ false) (λ v. FirstAt test start end v)
+
+-- whether an edge leads from a node to v, or whether v is a source where no node is given
+abbrev pub leads : Problem → Option ℕ → ℕ → Bool
+leads p None v = p.source v
+leads p (Some u) v = p.edge u v
 
 -- a walk of k edges from a to b
 pub data Walk (p : Problem) (a : ℕ) : ℕ → ℕ → Type 0 where

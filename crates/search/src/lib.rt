@@ -2,8 +2,8 @@
 
 #![tactic(auto)]
 
-ghost use Rattle.std.specs.Prelude.{◌≡◌, ℕ, ◌+◌, ◌<◌, true, false, length, replicate, slice_index};
-ghost use Rattle.search.specs.Problem.{Problem};
+ghost use Rattle.std.specs.Prelude.{◌≡◌, ℕ, ◌+◌, ◌<◌, true, IfSome, length, replicate, slice_index};
+ghost use Rattle.search.specs.Problem.{Problem, First, leads};
 ghost use Rattle.search.specs.Queue.{at, Sound, Waiting, Stepped, Lent, Ended, Kept, Answered};
 
 use lent::{Cleared, List};
@@ -28,14 +28,16 @@ pub trait Graph {
     fn nodes(&self) -> u16
         ensures { result ≡ (problem self.now).nodes };
 
-    // Each function asks for a node: which numbers are nodes depends on the graph.
-    fn edge(&self, from: u16, to: u16) -> bool
-        requires { (from < (problem self.now).nodes) × (to < (problem self.now).nodes) }
-        ensures { result ≡ (problem self.now).edge from to };
+    // A search asks for the next node, and not about each: a graph may know that node without a look at those before it.
+    /// The first source from the number `start` on.
+    fn next_source(&self, start: u16) -> Option<u16>
+        ensures { First (problem self.now).source start (problem self.now).nodes result };
 
-    fn source(&self, node: u16) -> bool
-        requires { node < (problem self.now).nodes }
-        ensures { result ≡ (problem self.now).source node };
+    /// The first node from the number `start` on to which an edge leads.
+    // This and `target` ask for a node: which numbers are nodes depends on the graph.
+    fn next_edge(&self, from: u16, start: u16) -> Option<u16>
+        requires { from < (problem self.now).nodes }
+        ensures { First ((problem self.now).edge from) start (problem self.now).nodes result };
 
     fn target(&self, node: u16) -> bool
         requires { node < (problem self.now).nodes }
@@ -62,25 +64,36 @@ fn visit<G: Graph>(
     graph.target(place.node)
 }
 
-/// Visits the nodes without a tick for which `leads` holds, until one is a target. It asks only about nodes without a tick.
-fn visit_all<G: Graph, F: Fn(u16) -> bool>(
+/// The first node from the number `start` on to which an edge leads from a node, or the first source where none is given.
+// No closure for the two, which `visit_all` would take: its contract would have to say for any closure what that finds.
+fn next_node<G: Graph>(graph: &G, from: Option<u16>, start: u16) -> Option<u16>
+    requires { IfSome from (λ node. node < (G.problem graph.now).nodes) }
+    ensures { First (leads (G.problem graph.now) from) start (G.problem graph.now).nodes result }
+{
+    match from {
+        Some(node) => graph.next_edge(node, start),
+        None => graph.next_source(start),
+    }
+}
+
+/// Visits the nodes without a tick to which an edge leads from a node, or the sources where none is given, until one is a target.
+fn visit_all<G: Graph>(
     graph: &G,
     ticks: &mut Cleared<'_>,
     places: &mut List<'_, Place>,
+    from: Option<u16>,
     parent: u16,
     depth: u16,
-    leads: F,
 ) -> bool
     requires ready { Waiting (G.problem graph.now) ticks.old places.old depth }
-    requires asked { (v : ℕ) → v < (G.problem graph.now).nodes → F.pre leads v }
-    requires sound { (v : ℕ) → v < (G.problem graph.now).nodes → F.post leads v true → Sound (G.problem graph.now) places.old.items.now places.old.len (record { node = v; parent = parent; depth = depth }) }
+    requires asked { IfSome from (λ node. node < (G.problem graph.now).nodes) }
+    requires sound { (v : ℕ) → v < (G.problem graph.now).nodes → leads (G.problem graph.now) from v ≡ true → Sound (G.problem graph.now) places.old.items.now places.old.len (record { node = v; parent = parent; depth = depth }) }
     ensures lent { Lent ticks.old ticks.new places.old places.new }
-    ensures stepped { Stepped (G.problem graph.now) ticks.old ticks.new places.old places.new depth (λ v. F.post leads v false → ⊥) result }
+    ensures stepped { Stepped (G.problem graph.now) ticks.old ticks.new places.old places.new depth (λ v. leads (G.problem graph.now) from v ≡ true) result }
 {
-    // Nodes are numbers, and no slice holds them.
-    for node in 0..graph.nodes() {
-        if !ticks.is_ticked(node as usize)
-            && leads(node)
+    let mut start = 0;
+    while let Some(node) = next_node(graph, from, start) {
+        if !ticks.is_ticked(usize::from(node))
             && visit(
                 graph,
                 ticks,
@@ -94,6 +107,7 @@ fn visit_all<G: Graph, F: Fn(u16) -> bool>(
         {
             return true;
         }
+        start = node + 1;
     }
     false
 }
@@ -104,7 +118,7 @@ fn start<G: Graph>(graph: &G, ticks: &mut Cleared<'_>, places: &mut List<'_, Pla
     ensures lent { Lent ticks.old ticks.new places.old places.new }
     ensures stepped { Stepped (G.problem graph.now) ticks.old ticks.new places.old places.new 0 (λ v. (G.problem graph.now).source v ≡ true) result }
 {
-    visit_all(graph, ticks, places, 0, 0, |node| graph.source(node))
+    visit_all(graph, ticks, places, None, 0, 0)
 }
 
 /// Visits the nodes to which an edge leads from the place `head`, until one is a target.
@@ -122,14 +136,7 @@ fn scan<G: Graph>(
     ensures stepped { Stepped (G.problem graph.now) ticks.old ticks.new places.old places.new (from.depth + 1) (λ v. (G.problem graph.now).edge from.node v ≡ true) result }
 {
     let depth = from.depth + 1;
-    visit_all(
-        graph,
-        ticks,
-        places,
-        head,
-        depth,
-        |node| graph.edge(from.node, node),
-    )
+    visit_all(graph, ticks, places, Some(from.node), head, depth)
 }
 
 /// Visits the sources, then scans the places one after another, until a target is met or none is left.
