@@ -2,10 +2,10 @@
 ghost use Rattle.std.specs.Prelude.{◌≡◌, ℕ, Bool, List};
 ghost use Rattle.verdicts.specs.Activities.{Move as Moving};
 ghost use Rattle.verdicts.specs.Searches.{Search};
-ghost use Rattle.moves.specs.Moved.{moved};
+ghost use Rattle.moves.specs.Moved.{linked};
 ghost use Rattle.activities.specs.Kinds.{KindLaws};
 
-use moves::movement::Move;
+use moves::movement::Link;
 
 /// A kind of activity. It goes from context to context in phases, of which the number never falls.
 pub trait Activity {
@@ -24,10 +24,10 @@ pub trait Activity {
     /// The activities of this kind from one context to another.
     ghost activities: { ℕ → ℕ → List Moving → Type 0 };
 
-    /// The move by which an activity goes on from one context to another in a phase.
-    // Each kind writes its moves out: one function over the two constants would hide which moves a kind has.
-    fn step(phase: usize, from: u16, to: u16) -> Move
-        ensures { moved result ≡ kind.move phase from to };
+    /// How an activity goes on from one context to another in a phase.
+    // Each kind writes its links out: one function over the two constants would hide which moves a kind has.
+    fn link(phase: usize) -> Link
+        ensures { (c d : ℕ) → linked result c d ≡ kind.move phase c d };
 
     ghost counted: { PHASES ≡ kind.phases };
 

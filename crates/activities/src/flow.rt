@@ -5,7 +5,7 @@ ghost use Rattle.verdicts.specs.Searches.{flowing};
 ghost use Rattle.activities.specs.KindLaws.{flow_laws};
 
 use crate::activity::Activity;
-use moves::movement::Move;
+use moves::movement::Link;
 
 /// Transfers back alone.
 pub struct Flow;
@@ -27,7 +27,7 @@ impl Activity for Flow {
 
     ghost lawful = { flow_laws };
 
-    fn step(_phase: usize, from: u16, to: u16) -> Move {
-        Move::Transfer(to, from)
+    fn link(_phase: usize) -> Link {
+        Link::Getting
     }
 }

@@ -5,7 +5,7 @@ ghost use Rattle.verdicts.specs.Searches.{pulling};
 ghost use Rattle.activities.specs.KindLaws.{pull_laws};
 
 use crate::activity::Activity;
-use moves::movement::Move;
+use moves::movement::Link;
 
 /// Transitions, and then transfers back.
 pub struct Pull;
@@ -27,11 +27,7 @@ impl Activity for Pull {
 
     ghost lawful = { pull_laws };
 
-    fn step(phase: usize, from: u16, to: u16) -> Move {
-        if phase == 0 {
-            Move::Transition(from, to)
-        } else {
-            Move::Transfer(to, from)
-        }
+    fn link(phase: usize) -> Link {
+        if phase == 0 { Link::Becoming } else { Link::Getting }
     }
 }

@@ -5,7 +5,7 @@ ghost use Rattle.verdicts.specs.Searches.{pushing};
 ghost use Rattle.activities.specs.KindLaws.{push_laws};
 
 use crate::activity::Activity;
-use moves::movement::Move;
+use moves::movement::Link;
 
 /// Transitions, and then transfers onwards.
 pub struct Push;
@@ -27,11 +27,7 @@ impl Activity for Push {
 
     ghost lawful = { push_laws };
 
-    fn step(phase: usize, from: u16, to: u16) -> Move {
-        if phase == 0 {
-            Move::Transition(from, to)
-        } else {
-            Move::Transfer(from, to)
-        }
+    fn link(phase: usize) -> Link {
+        if phase == 0 { Link::Becoming } else { Link::Giving }
     }
 }

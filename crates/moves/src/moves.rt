@@ -149,6 +149,13 @@ impl<'a, P: Policy> Moves<'a, P> {
         &self.regime
     }
 
+    /// How many contexts there are.
+    pub fn contexts(&self) -> u16
+        ensures { result ≡ (meaning_of P.Policy.meaning self.now.regime).contexts }
+    {
+        self.regime.policy.contexts()
+    }
+
     /// The contexts to which a context leads, by a move that some legal run makes.
     pub fn from(&self, context: u16, link: Link) -> ContextSet
         ensures { IsSetOf (λ d. makeable (meaning_of P.Policy.meaning self.now.regime) (grants_of self.now.regime) (linked link context d)) result }

@@ -9,7 +9,7 @@ ghost use Rattle.moves.specs.Moved.{moved, ShownAs, LowestOf};
 
 use crate::grant::lowest_giver;
 use crate::movement::Move;
-use crate::regime::Regime;
+use crate::moves::Moves;
 use access::operation::Operation;
 use access::operation_set::OperationSet;
 use access::policy::Policy;
@@ -25,24 +25,24 @@ pub struct Step {
     pub origin: u8,
 }
 
-impl<P: Policy> Regime<'_, P> {
+impl<P: Policy> Moves<'_, P> {
     /// Where a possible interaction comes from.
     fn origin(&self, s: u16, t: u16, operation: Operation) -> u8
-        requires { T (has (possible_on (meaning_of P.Policy.meaning self.now) (grants_of self.now) s t) (number_of operation)) }
-        ensures { Origin (meaning_of P.Policy.meaning self.now) (grants_of self.now) (doing s t (number_of operation)) result }
+        requires { T (has (possible_on (meaning_of P.Policy.meaning self.now.regime) (grants_of self.now.regime) s t) (number_of operation)) }
+        ensures { Origin (meaning_of P.Policy.meaning self.now.regime) (grants_of self.now.regime) (doing s t (number_of operation)) result }
     {
-        let own = self.policy.written(s, t).and(self.policy.permitted(s, t));
+        let own = self.regime.policy.written(s, t).and(self.regime.policy.permitted(s, t));
         if own.has(operation) {
             return 0;
         }
-        lowest_giver(self.grants, s, t, operation).unwrap()
+        lowest_giver(self.regime.grants, s, t, operation).unwrap()
     }
 
     /// The step of the lowest operation of a set that is possible on a pair.
     fn lowest(&self, s: u16, t: u16, among: OperationSet) -> Option<Step>
-        ensures { LowestOf (meaning_of P.Policy.meaning self.now) (grants_of self.now) s t among.bits result }
+        ensures { LowestOf (meaning_of P.Policy.meaning self.now.regime) (grants_of self.now.regime) s t among.bits result }
     {
-        let operation = among.and(self.possible(s, t)).lowest()?;
+        let operation = among.and(self.regime.possible(s, t)).lowest()?;
         Some(Step {
             subject: s,
             target: t,
@@ -53,9 +53,8 @@ impl<P: Policy> Regime<'_, P> {
 
     /// The step that shows a move, if some legal run makes it: by the giver's lowest operation, or by the taker's where the
     /// giver has none.
-    // Move by move like `makes`, which a search asks at each edge: by one function of both it would look for a step there.
     pub fn show(&self, chosen: Move) -> Option<Step>
-        ensures { ShownAs (meaning_of P.Policy.meaning self.now) (grants_of self.now) (moved chosen) result }
+        ensures { ShownAs (meaning_of P.Policy.meaning self.now.regime) (grants_of self.now.regime) (moved chosen) result }
     {
         match chosen {
             Move::Transition(c, d) => self.lowest(c, d, OperationSet::transition()),

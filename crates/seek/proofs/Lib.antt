@@ -1,4 +1,5 @@
 mod Charted
+mod Nexts
 mod Lines
 mod Turns
 mod Puts

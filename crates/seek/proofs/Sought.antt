@@ -15,7 +15,9 @@ use Rattle.search.specs.Queue.{at, Found as FoundPlace, Answered, Fits, Outcome}
 use Rattle.search.specs.declared.TooShort.{TooShort}
 use Rattle.search.specs.declared.Place.{Place}
 use Rattle.moves.specs.Regimes.{meaning_of, grants_of}
-use Rattle.moves.specs.declared.regime.Regime.{Regime}
+use Rattle.moves.specs.declared.moves.Moves.{Moves}
+use Rattle.access.specs.declared.policy.Policy.{Ghosts as Policy}
+use Rattle.activities.specs.declared.activity.Activity.{Ghosts as Activity}
 use Rattle.moves.specs.declared.step.Step.{Step}
 use Rattle.activities.specs.Kinds.{KindLaws}
 use Rattle.activities.specs.Nodes.{edge, source}
@@ -31,12 +33,12 @@ use Rattle.seek.proofs.Charted.{few_edges}
 use Rattle.activities.proofs.Rests.{same_rest}
 
 -- what a search over a chart answered, if it was not refused
-pub told : {X P : Type 0} (kind : Search) (meaning : P → Meaning) (chart : Chart X P) {r : Regime P} {from to : ContextSet} → chart.regime.now ≡ r → chart.from ≡ from → chart.to ≡ to
-    → {ts : List ℕ} {ps : List Place} (ps' : List Place) (found : Option ℕ) {result : Result (Option ℕ) TooShort} → result ≡ Ok found → Answered (problem_of kind meaning chart) ts ps ps' result
-    → Fits (plan kind (meaning_of meaning r) (grants_of r) (member from) (member to)) ts ps × Outcome (plan kind (meaning_of meaning r) (grants_of r) (member from) (member to)) ps' found
-told kind meaning chart {r} {from} {to} is starts leads {ts} {ps} ps' found e a =
-    let p : problem_of kind meaning chart ≡ plan kind (meaning_of meaning r) (grants_of r) (member from) (member to) = cc in
-    subst (λ x. Fits x ts ps × Outcome x ps' found) p (subst (Answered (problem_of kind meaning chart) ts ps ps') e a)
+pub told : {X P : Type 0} {A : Activity X} {B : Policy P} (chart : Chart X P A B) {moves : Moves P B} {from to : ContextSet} → chart.moves.now ≡ moves → chart.from ≡ from → chart.to ≡ to
+    → {ts : List ℕ} {ps : List Place} (ps' : List Place) (found : Option ℕ) {result : Result (Option ℕ) TooShort} → result ≡ Ok found → Answered (problem_of chart) ts ps ps' result
+    → let p = plan A.kind (meaning_of B.meaning moves.regime) (grants_of moves.regime) (member from) (member to) in Fits p ts ps × Outcome p ps' found
+told {A = A} {B = B} chart {moves} {from} {to} is starts leads {ts} {ps} ps' found e a =
+    let p : problem_of chart ≡ plan A.kind (meaning_of B.meaning moves.regime) (grants_of moves.regime) (member from) (member to) = cc in
+    subst (λ x. Fits x ts ps × Outcome x ps' found) p (subst (Answered (problem_of chart) ts ps ps') e a)
 
 module _ (m : Meaning) (gs : Grants) (l : Sound m) {kind : Search} {back : Bool} {activities : ℕ → ℕ → List Move → Type 0} (laws : KindLaws kind back activities) (A B : ℕ → Bool) where
   abbrev n : ℕ

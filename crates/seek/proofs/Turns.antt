@@ -33,10 +33,10 @@ module _ {X P : Type 0} {A : Activity X} {B : Policy P} (way : Way X P A B) wher
   last = way.last
 
   abbrev m : Meaning
-  m = meaning_of B.meaning way.chart.now.regime.now
+  m = meaning_of B.meaning way.chart.now.moves.now.regime
 
   abbrev gs : Grants
-  gs = grants_of way.chart.now.regime.now
+  gs = grants_of way.chart.now.moves.now.regime
 
   abbrev n : ℕ
   n = m.contexts
@@ -47,7 +47,7 @@ module _ {X P : Type 0} {A : Activity X} {B : Policy P} (way : Way X P A B) wher
   abbrev Node : ℕ → ℕ
   Node place = (at ps place).node
 
-  sound : (i : ℕ) → i ≤ last → Sound (problem_of kind B.meaning way.chart.now) ps i (at ps i)
+  sound : (i : ℕ) → i ≤ last → Sound (problem_of way.chart.now) ps i (at ps i)
   sound = ∥∥₁_elim way.found (hlevel props) (λ f. f.sound)
 
   -- from the place `here`, at depth `left`, on the way is in the last phase

@@ -1,19 +1,20 @@
 -- What the code's charts mean.
 use Rattle.std.specs.Prelude.{ℕ, List}
 use Rattle.access.specs.Contexts.{member}
-use Rattle.access.specs.Policy.{Meaning}
-use Rattle.verdicts.specs.Searches.{Search}
+use Rattle.access.specs.declared.policy.Policy.{Ghosts as Policy}
 use Rattle.search.specs.Problem.{Problem}
 use Rattle.search.specs.Queue.{Found}
 use Rattle.search.specs.declared.Place.{Place}
 use Rattle.moves.specs.Regimes.{meaning_of, grants_of}
+use Rattle.activities.specs.declared.activity.Activity.{Ghosts as Activity}
 use Rattle.seek.specs.Plan.{plan}
 use Rattle.seek.specs.declared.chart.Chart.{Chart}
 
--- the graph in which a chart seeks
-abbrev pub problem_of : {A P : Type 0} → Search → (P → Meaning) → Chart A P → Problem
-problem_of kind meaning c = plan kind (meaning_of meaning c.regime.now) (grants_of c.regime.now) (member c.from) (member c.to)
+module _ {X P : Type 0} {A : Activity X} {B : Policy P} (chart : Chart X P A B) where
+  -- the graph in which a chart seeks
+  abbrev pub problem_of : Problem
+  problem_of = plan A.kind (meaning_of B.meaning chart.moves.now.regime) (grants_of chart.moves.now.regime) (member chart.from) (member chart.to)
 
--- the place `last` was found in it
-abbrev pub FoundOn : {A P : Type 0} → Search → (P → Meaning) → Chart A P → List Place → ℕ → Type 0
-FoundOn kind meaning c places last = Found (problem_of kind meaning c) places last
+  -- the place `last` was found in it
+  abbrev pub FoundOn : List Place → ℕ → Type 0
+  FoundOn places last = Found problem_of places last

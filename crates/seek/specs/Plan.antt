@@ -1,13 +1,13 @@
 -- The graph that is searched for an activity, and the way back from a place that was found.
-use Rattle.std.specs.Prelude.{ℕ, zero, suc, ◌-◌, ◌*◌, Bool, ◌&&◌, List}
+use Rattle.std.specs.Prelude.{ℕ, zero, suc, ◌+◌, ◌-◌, ◌*◌, max, Bool, ◌&&◌, List, Option}
 use Rattle.access.specs.Contexts.{inside}
 use Rattle.access.specs.Policy.{Meaning}
 use Rattle.verdicts.specs.Runs.{Grants}
 use Rattle.verdicts.specs.Searches.{Search}
-use Rattle.search.specs.Problem.{Problem}
+use Rattle.search.specs.Problem.{Problem, First}
 use Rattle.search.specs.Queue.{at}
 use Rattle.search.specs.declared.Place.{Place}
-use Rattle.activities.specs.Nodes.{edge, source, target}
+use Rattle.activities.specs.Nodes.{context, edge, source, target}
 
 -- the members of a set that are contexts
 abbrev pub among : ℕ → (ℕ → Bool) → ℕ → Bool
@@ -22,6 +22,10 @@ plan kind m gs A B =
       source = source m.contexts (among m.contexts A);
       target = target m.contexts B;
     }
+
+-- the first node of a phase, from `start` on, whose context passes a test, over n contexts
+abbrev pub FirstInPhase : ℕ → (ℕ → Bool) → ℕ → ℕ → Option ℕ → Type 0
+FirstInPhase n test phase start r = First (λ v. test (context n v)) (max start (phase * n)) (phase * n + n) r
 
 -- the i-th place back from a place
 abbrev pub up : List Place → ℕ → ℕ → ℕ

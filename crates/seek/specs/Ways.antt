@@ -20,8 +20,8 @@ module _ {X P : Type 0} {A : Activity X} {B : Policy P} (way : Way X P A B) wher
 
   -- from depth `turn` on it is in the last phase
   abbrev pub TurnedOn : ℕ → Type 0
-  TurnedOn = Turned A.kind (meaning_of B.meaning way.chart.now.regime.now).contexts line_of depth_of
+  TurnedOn = Turned A.kind (meaning_of B.meaning way.chart.now.moves.now.regime).contexts line_of depth_of
 
   -- it is shown by the steps, from the turn on in reverse where it goes backwards
   abbrev pub TracedOn : Bool → List Step → Type 0
-  TracedOn back = Traced A.kind (meaning_of B.meaning way.chart.now.regime.now) (grants_of way.chart.now.regime.now) back line_of depth_of
+  TracedOn back = Traced A.kind (meaning_of B.meaning way.chart.now.moves.now.regime) (grants_of way.chart.now.moves.now.regime) back line_of depth_of

@@ -1,43 +1,44 @@
 //! The graph of an activity: its nodes are contexts at phases, and its edges the moves that some legal run makes.
-ghost use Rattle.std.specs.Prelude.{◌≡◌};
+ghost use Rattle.std.specs.Prelude.{◌≡◌, ◌<◌, ◌≤◌};
+ghost use Rattle.access.specs.Contexts.{member};
 ghost use Rattle.moves.specs.Moved.{moved};
 ghost use Rattle.moves.specs.Regimes.{meaning_of};
 ghost use Rattle.activities.specs.Nodes.{phase, context, move_of};
+ghost use Rattle.seek.specs.Plan.{FirstInPhase};
 
 use access::context_set::ContextSet;
 use access::policy::Policy;
 use activities::activity::Activity;
 use moves::movement::Move;
-use moves::outline::Outlined;
-use moves::regime::Regime;
+use moves::moves::Moves;
 use search::Graph;
 use std::marker::PhantomData;
 
-/// From which contexts to which an activity is sought, and what makes its moves possible.
+/// From which contexts to which an activity is sought, and the moves that it can be made of.
 #[derive(Drop)]
-pub(crate) struct Chart<'a, A, P> {
-    pub(crate) regime: &'a Regime<'a, P>,
-    outlined: Outlined<'a, P>,
+pub(crate) struct Chart<'a, A: Activity, P: Policy> {
+    pub(crate) moves: &'a Moves<'a, P>,
+    contexts: u16,
     from: ContextSet,
     to: ContextSet,
     activity: PhantomData<A>,
-    ghost same: { outlined.regime.now ≡ regime.now },
+    ghost counted: { contexts ≡ (meaning_of P.Policy.meaning moves.now.regime).contexts },
 }
 
 impl<'a, A: Activity, P: Policy> Chart<'a, A, P> {
     // The constructor of the struct that holds the three.
     pub(crate) fn between(
-        regime: &'a Regime<'a, P>,
+        moves: &'a Moves<'a, P>,
         from: ContextSet,
         to: ContextSet,
     ) -> Chart<'a, A, P>
-        ensures regime { result.regime.now ≡ regime.now }
+        ensures moves { result.moves.now ≡ moves.now }
         ensures from { result.from ≡ from }
         ensures to { result.to ≡ to }
     {
         Chart {
-            regime,
-            outlined: Outlined::new(regime),
+            moves,
+            contexts: moves.contexts(),
             from,
             to,
             activity: PhantomData,
@@ -45,44 +46,61 @@ impl<'a, A: Activity, P: Policy> Chart<'a, A, P> {
     }
 
     pub(crate) fn phase_of(&self, node: u16) -> usize
-        ensures { result ≡ phase (meaning_of P.Policy.meaning self.now.regime.now).contexts node }
+        ensures { result ≡ phase (meaning_of P.Policy.meaning self.now.moves.now.regime).contexts node }
     {
-        usize::from(node / self.regime.policy.contexts())
+        usize::from(node / self.contexts)
     }
 
     fn context_of(&self, node: u16) -> u16
-        ensures { result ≡ context (meaning_of P.Policy.meaning self.now.regime.now).contexts node }
+        ensures { result ≡ context (meaning_of P.Policy.meaning self.now.moves.now.regime).contexts node }
     {
-        node % self.regime.policy.contexts() + 1
+        node % self.contexts + 1
     }
 
     /// The move by which an edge leads from one node to another.
     pub(crate) fn move_between(&self, before: u16, node: u16) -> Move
-        ensures { moved result ≡ move_of A.Activity.kind (meaning_of P.Policy.meaning self.now.regime.now).contexts before node }
+        ensures { moved result ≡ move_of A.Activity.kind (meaning_of P.Policy.meaning self.now.moves.now.regime).contexts before node }
     {
-        A::step(
-            self.phase_of(node),
-            self.context_of(before),
-            self.context_of(node),
-        )
+        let link = A::link(self.phase_of(node));
+        link.between(self.context_of(before), self.context_of(node))
+    }
+
+    /// The first node from the number `start` on that is a member of a set at a phase.
+    fn first_at(&self, phase: usize, set: ContextSet, start: u16) -> Option<u16>
+        requires { phase < A.Activity.PHASES }
+        ensures { FirstInPhase (meaning_of P.Policy.meaning self.now.moves.now.regime).contexts (member set) phase start result }
+    {
+        let earlier = phase as u16 * self.contexts;
+        let context = set.first_above(start.saturating_sub(earlier))?;
+        if context > self.contexts {
+            return None;
+        }
+        Some(earlier + context - 1)
     }
 }
 
 impl<A: Activity, P: Policy> Graph for Chart<'_, A, P> {
     ghost use Rattle.seek.specs.Charts.{problem_of};
 
-    ghost problem = { problem_of A.Activity.kind P.Policy.meaning };
+    ghost problem = { problem_of };
 
     fn nodes(&self) -> u16 {
-        A::PHASES as u16 * self.regime.policy.contexts()
+        A::PHASES as u16 * self.contexts
     }
 
-    fn edge(&self, from: u16, to: u16) -> bool {
-        self.phase_of(from) <= self.phase_of(to) && self.outlined.makes(self.move_between(from, to))
+    fn next_source(&self, start: u16) -> Option<u16> {
+        self.first_at(0, self.from, start)
     }
 
-    fn source(&self, node: u16) -> bool {
-        self.phase_of(node) == 0 && self.from.has(self.context_of(node))
+    fn next_edge(&self, from: u16, start: u16) -> Option<u16> {
+        let context = self.context_of(from);
+        for phase in self.phase_of(from)..A::PHASES {
+            let reached = self.moves.from(context, A::link(phase));
+            if let Some(node) = self.first_at(phase, reached, start) {
+                return Some(node);
+            }
+        }
+        None
     }
 
     fn target(&self, node: u16) -> bool {

@@ -9,22 +9,22 @@ use access::context_set::ContextSet;
 use access::policy::Policy;
 use access::refusal::Refusal;
 use activities::activity::Activity;
-use moves::regime::Regime;
+use moves::moves::Moves;
 use search::{Place, search};
 
 /// How many moves a shortest activity of a kind has from a context of one set to a context of another, or `None` where there
 /// is no such activity of any length.
 pub fn measure<'a, A: Activity, P: Policy>(
-    regime: &'a Regime<'a, P>,
+    moves: &'a Moves<'a, P>,
     from: ContextSet,
     to: ContextSet,
     ticks: &mut [u8],
     places: &mut [Place],
 ) -> Result<Option<usize>, Refusal>
-    ensures answer { ToldLength A.Activity.kind.phases (meaning_of P.Policy.meaning regime.now) (grants_of regime.now) A.Activity.activities (member from) (member to) ticks.old places.old places.new result }
+    ensures answer { ToldLength A.Activity.kind.phases (meaning_of P.Policy.meaning moves.now.regime) (grants_of moves.now.regime) A.Activity.activities (member from) (member to) ticks.old places.old places.new result }
     ensures ticks { ticks.new ≡ replicate (length ticks.old) 0 }
 {
-    let chart: Chart<'_, A, P> = Chart::between(regime, from, to);
+    let chart: Chart<'_, A, P> = Chart::between(moves, from, to);
     let found = search(&chart, ticks, places).map_err(|_| Refusal::ShortMemory)?;
     let Some(last) = found else {
         return Ok(None);

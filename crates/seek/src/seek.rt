@@ -11,7 +11,7 @@ use access::policy::Policy;
 use access::refusal::Refusal;
 use activities::activity::Activity;
 use lent::Cleared;
-use moves::regime::Regime;
+use moves::moves::Moves;
 use moves::step::Step;
 use search::{Place, search};
 
@@ -22,21 +22,21 @@ use search::{Place, search};
 /// The lent memory comes as three slices: of a struct that holds them, each contract would owe that it still lends the same three.
 // Two sets side by side, from and to, and so in `measure`: a struct of them would only name them once more at each call.
 pub fn seek<'a, A: Activity, P: Policy>(
-    regime: &'a Regime<'a, P>,
+    moves: &'a Moves<'a, P>,
     from: ContextSet,
     to: ContextSet,
     ticks: &mut [u8],
     places: &mut [Place],
     steps: &mut [Step],
 ) -> Result<Option<usize>, Refusal>
-    ensures answer { Answered A.Activity.kind.phases (meaning_of P.Policy.meaning regime.now) (grants_of regime.now) A.Activity.activities (member from) (member to) ticks.old places.old places.new steps.old steps.new result }
+    ensures answer { Answered A.Activity.kind.phases (meaning_of P.Policy.meaning moves.now.regime) (grants_of moves.now.regime) A.Activity.activities (member from) (member to) ticks.old places.old places.new steps.old steps.new result }
     ensures ticks { ticks.new ≡ replicate (length ticks.old) 0 }
 {
-    if steps.len() < usize::from(regime.policy.contexts()) {
+    if steps.len() < usize::from(moves.contexts()) {
         let _cleared = Cleared::over(ticks);
         return Err(Refusal::ShortMemory);
     }
-    let chart: Chart<'_, A, P> = Chart::between(regime, from, to);
+    let chart: Chart<'_, A, P> = Chart::between(moves, from, to);
     let found = search(&chart, ticks, places).map_err(|_| Refusal::ShortMemory)?;
     let Some(last) = found else {
         return Ok(None);

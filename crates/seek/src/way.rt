@@ -19,7 +19,7 @@ pub(crate) struct Way<'a, A: Activity, P: Policy> {
     pub(crate) chart: &'a Chart<'a, A, P>,
     pub(crate) places: &'a [Place],
     pub(crate) last: usize,
-    ghost found: { ∥ FoundOn A.Activity.kind P.Policy.meaning chart.now places.now last ∥₁ },
+    ghost found: { ∥ FoundOn chart.now places.now last ∥₁ },
     ghost room: { last < length places.now },
 }
 
@@ -60,10 +60,10 @@ fn reserve(steps: &mut List<'_, Step>, count: usize)
 impl<A: Activity, P: Policy> Chart<'_, A, P> {
     /// The step of the edge between two nodes.
     fn step(&self, before: u16, node: u16) -> Step
-        requires { (problem_of A.Activity.kind P.Policy.meaning self.now).edge before node ≡ true }
-        ensures { Shows (meaning_of P.Policy.meaning self.now.regime.now) (grants_of self.now.regime.now) (move_of A.Activity.kind (meaning_of P.Policy.meaning self.now.regime.now).contexts before node) result }
+        requires { (problem_of self.now).edge before node ≡ true }
+        ensures { Shows (meaning_of P.Policy.meaning self.now.moves.now.regime) (grants_of self.now.moves.now.regime) (move_of A.Activity.kind (meaning_of P.Policy.meaning self.now.moves.now.regime).contexts before node) result }
     {
-        self.regime.show(self.move_between(before, node)).unwrap()
+        self.moves.show(self.move_between(before, node)).unwrap()
     }
 }
 

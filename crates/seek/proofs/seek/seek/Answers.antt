@@ -11,33 +11,33 @@ use Rattle.seek.proofs.seek.seek.Goals as goal
 
 pub returns-in_default-clause-answer : goal.returns-in_default-clause-answer
 returns-in_default-clause-answer g c =
-    let m = g.P.Policy.meaning c.args.regime.now.policy.now in
-    let gs = grants_of c.args.regime.now in
+    let m = g.P.Policy.meaning c.args.moves.now.regime.policy.now in
+    let gs = grants_of c.args.moves.now.regime in
     let is : c.search.result ≡ Ok None = search rules in
-    let answer = told g.A.Activity.kind g.P.Policy.meaning c.between-chart.result c.between-chart.ensures.regime c.between-chart.ensures.from c.between-chart.ensures.to c.search.new.places None is c.search.ensures.answer in (
+    let answer = told c.between-chart.result c.between-chart.ensures.moves c.between-chart.ensures.from c.between-chart.ensures.to c.search.new.places None is c.search.ensures.answer in (
       record { ticks_fit = answer.0.ticks; places_fit = answer.0.places; steps_fit = omega (arith, c.if-steps-from.false, c.contexts.ensures, c.from.ensures) },
-      (none_sought m gs (g.met.P.Policy.sound c.args.regime.now.policy.now) g.met.A.Activity.lawful (member c.args.from) (member c.args.to) answer.1, refl),
+      (none_sought m gs (g.met.P.Policy.sound c.args.moves.now.regime.policy.now) g.met.A.Activity.lawful (member c.args.from) (member c.args.to) answer.1, refl),
     )
 
 pub write-requires : goal.write-requires
 write-requires g c =
-    let m = g.P.Policy.meaning c.args.regime.now.policy.now in
-    let gs = grants_of c.args.regime.now in
+    let m = g.P.Policy.meaning c.args.moves.now.regime.policy.now in
+    let gs = grants_of c.args.moves.now.regime in
     let is : c.search.result ≡ Ok (Some c.in-Some.last) = search rules in
-    let answer = told g.A.Activity.kind g.P.Policy.meaning c.between-chart.result c.between-chart.ensures.regime c.between-chart.ensures.from c.between-chart.ensures.to c.search.new.places (Some c.in-Some.last) is c.search.ensures.answer in
-    omega (arith, few_edges g.A.Activity.kind m gs (member c.args.from) (member c.args.to) (g.met.P.Policy.sound c.args.regime.now.policy.now) c.search.new.places c.in-Some.last answer.1, c.if-steps-from.false, c.contexts.ensures, c.from.ensures)
+    let answer = told c.between-chart.result c.between-chart.ensures.moves c.between-chart.ensures.from c.between-chart.ensures.to c.search.new.places (Some c.in-Some.last) is c.search.ensures.answer in
+    omega (arith, few_edges g.A.Activity.kind m gs (member c.args.from) (member c.args.to) (g.met.P.Policy.sound c.args.moves.now.regime.policy.now) c.search.new.places c.in-Some.last answer.1, c.if-steps-from.false, c.contexts.ensures, c.from.ensures)
 
 pub returns-clause-answer : goal.returns-clause-answer
 returns-clause-answer g c =
-    let m = g.P.Policy.meaning c.args.regime.now.policy.now in
-    let gs = grants_of c.args.regime.now in
+    let m = g.P.Policy.meaning c.args.moves.now.regime.policy.now in
+    let gs = grants_of c.args.moves.now.regime in
     let ps = c.search.new.places in
     let last = c.in-Some.last in
     let is : c.search.result ≡ Ok (Some c.in-Some.last) = search rules in
-    let answer = told g.A.Activity.kind g.P.Policy.meaning c.between-chart.result c.between-chart.ensures.regime c.between-chart.ensures.from c.between-chart.ensures.to ps (Some last) is c.search.ensures.answer in
+    let answer = told c.between-chart.result c.between-chart.ensures.moves c.between-chart.ensures.from c.between-chart.ensures.to ps (Some last) is c.search.ensures.answer in
     let room : m.contexts ≤ length c.args.steps.now = omega (arith, c.if-steps-from.false, c.contexts.ensures, c.from.ensures) in
-    let shown = subst (λ r. Traced g.A.Activity.kind (meaning_of g.P.Policy.meaning r) (grants_of r) g.A.Activity.BACKWARDS (line ps last) (at ps last).depth c.write.new.steps) c.between-chart.ensures.regime c.write.ensures.shown in
-    let sought = found_sought m gs (g.met.P.Policy.sound c.args.regime.now.policy.now) g.met.A.Activity.lawful (member c.args.from) (member c.args.to) ps last answer.1 c.args.steps.now c.write.new.steps room c.write.auto.steps shown c.write.ensures.rest in (
+    let shown = subst (λ v. Traced g.A.Activity.kind (meaning_of g.P.Policy.meaning v.regime) (grants_of v.regime) g.A.Activity.BACKWARDS (line ps last) (at ps last).depth c.write.new.steps) c.between-chart.ensures.moves c.write.ensures.shown in
+    let sought = found_sought m gs (g.met.P.Policy.sound c.args.moves.now.regime.policy.now) g.met.A.Activity.lawful (member c.args.from) (member c.args.to) ps last answer.1 c.args.steps.now c.write.new.steps room c.write.auto.steps shown c.write.ensures.rest in (
       record { ticks_fit = answer.0.ticks; places_fit = answer.0.places; steps_fit = room },
       subst (λ (k : ℕ). Searched m gs (Leads g.A.Activity.activities (among m.contexts (member c.args.from)) (member c.args.to)) c.args.steps.now c.write.new.steps (Some k)) (sym c.write.ensures.all) sought,
     )

@@ -7,5 +7,5 @@ use Rattle.seek.proofs.chart.Chart.step.Goals as goal
 
 pub unwrap-requires : goal.unwrap-requires
 unwrap-requires g c =
-    let m = g.P.Policy.meaning c.args.self.now.regime.now.policy.now in
-    makeable_shown m (grants_of c.args.self.now.regime.now) _ (subst T (sym (ap (makeable m (grants_of c.args.self.now.regime.now)) c.move_between.ensures ∙ (and_parts _ _ c.requires).1)) tt) c.show.result c.show.ensures
+    let m = g.P.Policy.meaning c.args.self.now.moves.now.regime.policy.now in
+    makeable_shown m (grants_of c.args.self.now.moves.now.regime) _ (subst T (sym (ap (makeable m (grants_of c.args.self.now.moves.now.regime)) c.move_between.ensures ∙ (and_parts _ _ c.requires).1)) tt) c.show.result c.show.ensures

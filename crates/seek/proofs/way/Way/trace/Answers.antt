@@ -29,3 +29,11 @@ loop-left-preserved g c =
       len = c.put.ensures.len ∙ inv.len;
       sized = ap length wrote ∙ length-set before i s ∙ inv.sized;
     }
+
+pub returns-clause-shown : goal.returns-clause-shown
+returns-clause-shown g c =
+    record {
+      turn = c.turn-turn.result;
+      turned = c.turn-turn.ensures;
+      shown = λ d _ below. c.loop-left.invariant.shown d (omega (arith, c.loop-left-test.false)) below;
+    }

@@ -9,7 +9,7 @@ abbrev pub invariant-loop-left : goal.invariant-loop-left
 invariant-loop-left g l =
     record {
       climb : Climb l.self.places.now l.self.last l.here l.left;
-      shown : ShownFrom g.A.Activity.kind (g.P.Policy.meaning l.self.chart.now.regime.now.policy.now) (grants_of l.self.chart.now.regime.now) g.A.Activity.BACKWARDS (line_of l.self) l.turn (depth_of l.self) l.left l.steps.items.now;
+      shown : ShownFrom g.A.Activity.kind (g.P.Policy.meaning l.self.chart.now.moves.now.regime.policy.now) (grants_of l.self.chart.now.moves.now.regime) g.A.Activity.BACKWARDS (line_of l.self) l.turn (depth_of l.self) l.left l.steps.items.now;
       same : SameFrom (depth_of l.self) l.initial.steps.items.now l.steps.items.now;
       lender : l.steps.items.ghost_name ≡ l.initial.steps.items.ghost_name;
       len : l.steps.len ≡ depth_of l.self;

@@ -9,5 +9,5 @@ loop-left-preserved g c =
 
 pub returns-then-phase_of-PHASES : goal.returns-then-phase_of-PHASES
 returns-then-phase_of-PHASES g c =
-    turn_done c.args.self.now (g.met.P.Policy.sound c.args.self.now.chart.now.regime.now.policy.now) c.loop-left.here c.loop-left.left c.loop-left.invariant
+    turn_done c.args.self.now (g.met.P.Policy.sound c.args.self.now.chart.now.moves.now.regime.policy.now) c.loop-left.here c.loop-left.left c.loop-left.invariant
     (inr (λ e. c.if-phase_of-PHASES.true (omega (arith, e, c.phase_of.ensures, c.PHASES.ensures, g.met.A.Activity.counted)))) _ (omega arith)
