@@ -1,6 +1,6 @@
 -- The members of a set of contexts, by its words.
 use Rattle.std.proofs.Common.{◌≡◌, ℕ, zero, suc, ◌+◌, ◌-◌, ◌*◌, ◌/◌, ◌%◌, ◌^◌, ◌<◌, ◌≤◌, Bool, true, false, ◌&&◌, ◌||◌, T, eqb, ltb, List, length, get_or, set, Some, None, sym, refl, ap, ◌∙◌, subst, ap₂, ⊎_elim, arith, get_or-set_other, get_or-set_same, shr-shr, w64, div-lt_iff_lt-mul, div-le_self, pow_pos, Option}
-use lib.Bits.{bit_and, bit_or}
+use lib.Bits.{bit_or}
 use Rattle.std.specs.Int.{trailing_zeros}
 use Rattle.std.specs.Option.{is_some}
 use Rattle.std.proofs.lemmas.Bool.{cases_eq, cases_lt, cases_Bool, both_ways, false_from_ne_true, eq-eqb, ne_eqb, lt-ltb, le-ltb, and_parts, and_from, and_left, and_right, or_from, or_left, or_right}
@@ -9,7 +9,7 @@ use Rattle.std.proofs.lemmas.Nat.Bits.{bit_at_set_same, bit_at_set_other, bit_at
 use Rattle.access.specs.Operations.{has}
 use Rattle.access.specs.Contexts.{inside, index_of, member, some_to, has_above, FirstAbove}
 use Rattle.access.specs.declared.context_set.ContextSet.{ContextSet}
-use Rattle.access.proofs.Bits.{has_and, has_below}
+use Rattle.access.proofs.Bits.{has_below}
 use Rattle.access.proofs.Tests.{T_true}
 
 -- the bit of context d
@@ -75,15 +75,16 @@ four P a b c d (suc (suc zero)) h = c
 four P a b c d (suc (suc (suc zero))) h = d
 four P a b c d (suc (suc (suc (suc k)))) h = absurd (omega arith)
 
-pub member_both : (r s t : ContextSet) → ((k : ℕ) → k < 4 → get_or r.words k 0 ≡ bit_and (get_or s.words k 0) (get_or t.words k 0))
-    → (d : ℕ) → member r d ≡ (member s d && member t d)
-member_both r s t w d =
-    by_range (member r d ≡ (member s d && member t d)) d
-    (λ h l.
-    let e = w ((d - 1) / 64) (omega arith) in
-    let b = has_and (get_or s.words ((d - 1) / 64) 0) (get_or t.words ((d - 1) / 64) 0) ((d - 1) % 64) in
-    member_in r d h l ∙ ap (λ x. has x ((d - 1) % 64)) e ∙ b ∙ ap₂ ◌&&◌ (sym (member_in s d h l)) (sym (member_in t d h l)))
-    (λ n. member_out r d n ∙ sym (and_left (member s d) (member t d) (member_out s d n)))
+-- a set that is made of two, word by word, where that is told bit by bit
+module _ (op : ℕ → ℕ → ℕ) (test : Bool → Bool → Bool) (law : (a b o : ℕ) → has (op a b) o ≡ test (has a o) (has b o)) (none : test false false ≡ false) where
+  pub member_by : (r s t : ContextSet) → ((k : ℕ) → k < 4 → get_or r.words k 0 ≡ op (get_or s.words k 0) (get_or t.words k 0)) → (d : ℕ) → member r d ≡ test (member s d) (member t d)
+  member_by r s t w d =
+      by_range (member r d ≡ test (member s d) (member t d)) d
+      (λ h l.
+      let e = w ((d - 1) / 64) (omega arith) in
+      let b = law (get_or s.words ((d - 1) / 64) 0) (get_or t.words ((d - 1) / 64) 0) ((d - 1) % 64) in
+      member_in r d h l ∙ ap (λ x. has x ((d - 1) % 64)) e ∙ b ∙ ap₂ test (sym (member_in s d h l)) (sym (member_in t d h l)))
+      (λ n. member_out r d n ∙ sym none ∙ ap₂ test (sym (member_out s d n)) (sym (member_out t d n)))
 
 -- ---- a context more
 

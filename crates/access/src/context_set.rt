@@ -1,6 +1,6 @@
 //! Sets of contexts.
-ghost use Rattle.std.specs.Prelude.{◌≡◌, ℕ, Bool, ◌<◌, ◌≤◌, true, false, ◌&&◌, ◌||◌, ◌==◌, MatchOption};
-ghost use Rattle.access.specs.Operations.{has as has_bit};
+ghost use Rattle.std.specs.Prelude.{◌≡◌, ℕ, Bool, ◌<◌, ◌≤◌, true, false, not, ◌&&◌, ◌||◌, ◌==◌, MatchOption};
+ghost use Rattle.access.specs.Operations.{has as has_bit, without};
 ghost use Rattle.access.specs.Contexts.{inside, member, marked, has_above, empty, meet, FirstAbove};
 
 use crate::numbers::index_in;
@@ -25,6 +25,13 @@ fn lowest_from(word: u64, k: usize) -> Option<usize>
     } else {
         Some(k + rest.trailing_zeros() as usize)
     }
+}
+
+/// The bits of a word that the other lacks.
+fn lacking(word: u64, other: u64) -> u64
+    ensures { result ≡ without word other }
+{
+    word - (word & other)
 }
 
 impl ContextSet {
@@ -64,11 +71,20 @@ impl ContextSet {
     }
 
     /// The members of both.
-    fn both(self, other: ContextSet) -> ContextSet
+    pub fn and(self, other: ContextSet) -> ContextSet
         ensures { (d : ℕ) → member result d ≡ (member self d && member other d) }
     {
         ContextSet {
             words: array::from_fn(|i| self.words[i] & other.words[i]),
+        }
+    }
+
+    /// The members that the other set lacks.
+    pub fn without(self, other: ContextSet) -> ContextSet
+        ensures { (d : ℕ) → member result d ≡ (member self d && not (member other d)) }
+    {
+        ContextSet {
+            words: array::from_fn(|i| lacking(self.words[i], other.words[i])),
         }
     }
 
@@ -103,6 +119,6 @@ impl ContextSet {
     pub fn shares(self, other: ContextSet) -> bool
         ensures { result ≡ meet self other }
     {
-        self.both(other).has_above(0)
+        self.and(other).has_above(0)
     }
 }

@@ -1,25 +1,29 @@
 -- Domains: a step across the edge, or none.
-use Rattle.std.proofs.Common.{ℕ, ◌≤◌, Bool, T, List, [], ◌∷◌, length, set, Some, None, Option, MatchOption, refl, subst, subst₂, ⊎_elim, arith}
+use Rattle.std.proofs.Common.{ℕ, ◌≤◌, Bool, ◌&&◌, T, List, [], ◌∷◌, length, set, Some, None, Option, MatchOption, IsSome, sym, refl, ◌∙◌, subst, subst₂, ⊎_elim, arith}
 use lib.Bits.{bit_and, bit_or}
 use Rattle.std.proofs.lemmas.Bool.{cases_Bool}
 use Rattle.access.specs.Operations.{has}
-use Rattle.access.specs.Contexts.{both_inside}
+use Rattle.access.specs.Contexts.{both_inside, FirstAbove}
+use Rattle.access.specs.declared.context_set.ContextSet.{ContextSet}
+use Rattle.access.proofs.Tests.{both, both_parts}
 use Rattle.access.specs.Policy.{Meaning, Interaction}
 use Rattle.access.specs.Sound.{Sound}
 use Rattle.access.proofs.Bits.{has_none}
 use Rattle.access.proofs.Settings.{pair_parts}
 use Rattle.verdicts.specs.Runs.{Grants}
-use Rattle.verdicts.specs.Activities.{contact, domain, Forbids}
-use Rattle.verdicts.specs.Possible.{granted, Can}
+use Rattle.verdicts.specs.Activities.{contact, domain, apart, Forbids}
+use Rattle.verdicts.specs.Possible.{granted, makeable, Can}
 use Rattle.verdicts.specs.Verdicts.{none, also}
 use Rattle.verdicts.proofs.Reduction.{reduction}
-use Rattle.verdicts.proofs.Moves.{makeable_done}
+use Rattle.verdicts.proofs.Moves.{makeable_done, done_makeable}
 use Rattle.verdicts.proofs.Domains.{domain_closed, domain_shortest}
 use Rattle.verdicts.proofs.Exists.{broken_by}
 use Rattle.moves.specs.declared.step.Step.{Step}
-use Rattle.moves.specs.Moved.{stepped}
+use Rattle.moves.specs.Moved.{stepped, ShownAs}
+use Rattle.moves.specs.Contextual.{IsSetOf}
+use Rattle.moves.proofs.Selected.{makeable_shown}
 use Rattle.activities.specs.Found.{NoneRealised}
-use Rattle.judge.specs.Crossings.{Across, NoneAcross}
+use Rattle.judge.specs.Crossings.{Across, NoneAcross, AcrossFrom}
 use Rattle.judge.specs.Judged.{Tells}
 use Rattle.judge.specs.declared.verdict.Verdict.TheVariants.{Broken}
 
@@ -52,3 +56,19 @@ module _ (m : Meaning) (gs : Grants) (l : Sound m) (A : ℕ → Bool) where
         record { moves = contact h.subject h.target ∷ []; sought = forbidden; count = refl; shown = also h.shown none; legal = b.legal; shortest = domain_shortest m gs A; few = l.a_context },
         refl,
       )
+
+  -- the first context on which s can do something across the edge
+  module _ (s : ℕ) (set : ContextSet) (is : IsSetOf (λ t. makeable m gs (contact s t) && apart A s t) set) where
+    pub crossing_none : FirstAbove 0 set None → AcrossFrom m gs A s m.contexts None
+    crossing_none never t low high a i w p =
+        let e = never t low in
+        subst T (sym (is t) ∙ e) (both (makeable m gs (contact s t)) (apart A s t) (done_makeable m gs (contact s t) i w ((reduction m gs (i ∷ [])).0 p).0) a)
+
+    pub crossing_some : (t : ℕ) → FirstAbove 0 set (Some t) → (r : Option Step) → ShownAs m gs (contact s t) r → AcrossFrom m gs A s m.contexts r
+    crossing_some t first r shown =
+        let h = both_parts (makeable m gs (contact s t)) (apart A s t) (subst T (sym (sym (is t) ∙ first.1)) tt) in
+        go r shown (makeable_shown m gs (contact s t) h.0 r shown) h.1
+      where
+        go : (r : Option Step) → ShownAs m gs (contact s t) r → IsSome r → T (apart A s t) → AcrossFrom m gs A s m.contexts r
+        go None shown some a = absurd (subst T (sym some) tt)
+        go (Some step) shown some a = record { subject = s; target = t; across = a; shown = shown }

@@ -1,12 +1,11 @@
 -- The sets that are made to search from one source.
-use Rattle.std.proofs.Common.{◌≡◌, ℕ, zero, suc, ◌-◌, ◌≤◌, Bool, true, false, not, ◌&&◌, ◌||◌, T, eqb, sym, ap, ◌∙◌, subst, ap₂, ⊎_elim, arith}
+use Rattle.std.proofs.Common.{◌≡◌, ℕ, zero, suc, ◌≤◌, Bool, true, false, not, ◌&&◌, ◌||◌, T, eqb, sym, ap, ◌∙◌, subst, ap₂, ⊎_elim, arith}
 use mathlib.Core.Path.{fun_ext}
-use Rattle.std.proofs.lemmas.Bool.{cases_eq, cases_Bool, eq-eqb, ne_eqb, and_right}
+use Rattle.std.proofs.lemmas.Bool.{cases_eq, eq-eqb, ne_eqb, and_right}
 use Rattle.access.specs.Contexts.{inside, member, some_to, empty}
 use Rattle.access.specs.declared.context_set.ContextSet.{ContextSet}
 use Rattle.access.proofs.Tests.{left, right, T_true}
-use Rattle.access.proofs.ContextLaws.{inside_parts, inside_from, outside_from, member_inside}
-use Rattle.moves.proofs.Collected.{upto_more}
+use Rattle.access.proofs.ContextLaws.{inside_from, member_inside}
 use Rattle.seek.specs.Plan.{among}
 
 some_from : (n : ℕ) (p : ℕ → Bool) (d : ℕ) → 1 ≤ d → d ≤ n → T (p d) → T (some_to n p)
@@ -24,10 +23,6 @@ none_in s e c h =
     let i = member_inside s c (T_true (member s c) h) in
     let some = T_true _ (some_from 256 (member s) c i.0 i.1 h) in
     subst T (e ∙ ap not some) tt
-
-module _ (p set : ℕ → Bool) (b : ℕ) (low : 1 ≤ b) (so : (d : ℕ) → set d ≡ (inside (b - 1) d && p d)) where
-  pub upto_skip : false ≡ p b → (d : ℕ) → set d ≡ (inside b d && p d)
-  upto_skip e = upto_more p set b low (λ d _. so d) (so b ∙ ap (λ x. x && p b) (outside_from (b - 1) b (λ l h. omega (arith, h))) ∙ e)
 
 -- the set of one context
 pub one_is : (n a : ℕ) (none one : ContextSet) → 1 ≤ a → a ≤ n → n ≤ 256 → ((d : ℕ) → member none d ≡ false) → ((d : ℕ) → member one d ≡ ((inside 256 a && eqb d a) || member none d)) → among n (member one) ≡ (λ c. eqb c a)

@@ -16,7 +16,8 @@ use Rattle.moves.specs.declared.step.Step.{Step}
 use Rattle.activities.specs.Found.{Leads, NoneRealised, AtLeast, Found, Shortest, Measured, Searched}
 use Rattle.activities.proofs.Properties.{sources_none, source_found}
 use Rattle.seek.specs.Plan.{among}
-use Rattle.judge.specs.Flows.{direct, unread_in, From, Nearest, Best, nearer_of}
+use Rattle.moves.specs.Done.{reads_alone}
+use Rattle.judge.specs.Flows.{is_unread, From, Nearest, Best, nearer_of}
 use Rattle.judge.specs.Judged.{Tells}
 use Rattle.judge.specs.declared.flow.Near.{Near}
 use Rattle.judge.specs.declared.verdict.Verdict.TheVariants.{Guaranteed, Broken}
@@ -24,7 +25,7 @@ use Rattle.judge.proofs.Sets.{none_in, one_is}
 
 -- ---- the sets that the code makes
 
-module _ (m : Meaning) (gs : Grants) (l : Sound m) (B : ℕ → Bool) (a : ℕ) (rest : ContextSet) (is_rest : (d : ℕ) → member rest d ≡ unread_in m B m.contexts a d) where
+module _ (m : Meaning) (gs : Grants) (l : Sound m) (B : ℕ → Bool) (a : ℕ) (rest : ContextSet) (is_rest : (d : ℕ) → member rest d ≡ is_unread m B a d) where
   -- nothing is left to forbid
   pub nothing_left : true ≡ empty rest → NoneRealised m gs (From m B a)
   nothing_left e ms h r = none_in rest e h.to (subst T (sym (is_rest h.to)) h.to_in)
@@ -86,22 +87,22 @@ module _ (m : Meaning) (gs : Grants) (A B : ℕ → Bool) where
   n = m.contexts
 
   module _ (ins_A : AllInside m.contexts A) (ins_B : AllInside m.contexts B) where
-    fails : (a b : ℕ) → T (B b) → (ReadsDirectly m a b → ⊥) → T (unread_in m B n a b)
-    fails a b h away = both (inside n b) _ (ins_B b h) (both (B b) _ h (not_T (direct m a b) (λ d. away (direct_found m a b d))))
+    fails : (a b : ℕ) → T (B b) → (ReadsDirectly m a b → ⊥) → T (is_unread m B a b)
+    fails a b h away = (both (B b) _ h (not_T (reads_alone m a b) (λ d. away (direct_found m a b d))))
 
     bounds : (a : ℕ) → T (A a) → (1 ≤ a) × (a ≤ n)
     bounds a h = let i = both_parts (leb 1 a) (leb a n) (ins_A a h) in (leb→le 1 a i.0, leb→le a n i.1)
 
     pub flow_none : (ss ss' : List Step) → ss' ≡ ss → ((a : ℕ) → 1 ≤ a → a ≤ m.contexts → T (A a) → NoneRealised m gs (From m B a)) → Tells m gs (Forbids m (consistency A B)) ss ss' Guaranteed
-    flow_none ss ss' e none = (sources_none m gs A B (unread_in m B n) fails (λ a h. let i = bounds a h in none a i.0 i.1 h), e)
+    flow_none ss ss' e none = (sources_none m gs A B (is_unread m B) fails (λ a h. let i = bounds a h in none a i.0 i.1 h), e)
 
     pub flow_some : (q : Near) → Nearest m gs A B m.contexts q → (ss ss' : List Step) (k : ℕ) → Found m gs (From m B q.source) ss' k × (drop k ss' ≡ drop k ss) → Tells m gs (Forbids m (consistency A B)) ss ss' (Broken k)
     flow_some q best ss ss' k h =
         let f = h.0 in
         let s = best.found in
         let few : k ≤ q.steps = omega (arith, f.shortest s.moves s.sought s.realises, s.count) in (
-          source_found m gs A B (unread_in m B n) fails q.source best.member
-              (λ b u. let p = both_parts (inside n b) _ u in let y = both_parts (B b) _ p.1 in (y.0, λ r. T_not (direct m q.source b) y.1 (direct_from m q.source b r)))
+          source_found m gs A B (is_unread m B) fails q.source best.member
+              (λ b u. let y = both_parts (B b) _ u in (y.0, λ r. T_not (reads_alone m q.source b) y.1 (direct_from m q.source b r)))
               ss' k (λ c t ms g r. let i = bounds c t in omega (arith, best.least c i.0 i.1 t ms g r)) f,
           h.1,
         )

@@ -18,10 +18,6 @@ pub record Across (m : Meaning) (gs : Grants) (A : ℕ → Bool) (step : Step) :
 abbrev pub NoneAcross : Meaning → Grants → (ℕ → Bool) → ℕ → ℕ → Type 0
 NoneAcross m gs A s t = T (apart A s t) → NoneMakes m gs (contact s t)
 
--- such a step of s on t, if there is one
-abbrev pub AcrossAt : Meaning → Grants → (ℕ → Bool) → ℕ → ℕ → Option Step → Type 0
-AcrossAt m gs A s t r = MatchOption r (NoneAcross m gs A s t) (Across m gs A)
-
 -- such a step, if s has one on a context up to `top`
 abbrev pub AcrossFrom : Meaning → Grants → (ℕ → Bool) → ℕ → ℕ → Option Step → Type 0
 AcrossFrom m gs A s top r = MatchOption r ((t : ℕ) → 1 ≤ t → t ≤ top → NoneAcross m gs A s t) (Across m gs A)

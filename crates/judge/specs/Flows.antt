@@ -1,29 +1,19 @@
 -- The nearest source of a flow that a consistency property forbids.
-use Rattle.std.specs.Prelude.{ℕ, ◌≤◌, Bool, cond, not, ◌&&◌, T, List, Some, None, Option, MatchOption, bit_and, nat_eq, nat_lt}
-use Rattle.access.specs.Contexts.{inside}
-use Rattle.access.specs.Operations.{read_op}
+use Rattle.std.specs.Prelude.{ℕ, ◌≤◌, Bool, cond, not, ◌&&◌, T, List, Some, None, Option, MatchOption, nat_eq, nat_lt}
 use Rattle.access.specs.Policy.{Meaning}
 use Rattle.verdicts.specs.Runs.{Grants}
 use Rattle.verdicts.specs.Activities.{Move, Flow}
-use Rattle.verdicts.specs.Possible.{some_op}
+use Rattle.moves.specs.Done.{reads_alone}
 use Rattle.activities.specs.Found.{Leads, NoneRealised, AtLeast, Shortest}
 use Rattle.judge.specs.declared.flow.Near.{Near}
 
--- whether the policy alone lets a read b
-abbrev pub direct : Meaning → ℕ → ℕ → Bool
-direct m a b = some_op read_op (bit_and (m.written a b) (m.permitted a b))
-
 -- whether b is in B, and the policy alone does not let a read it
 abbrev pub is_unread : Meaning → (ℕ → Bool) → ℕ → ℕ → Bool
-is_unread m B a b = B b && not (direct m a b)
-
--- the same of the contexts up to `top`
-abbrev pub unread_in : Meaning → (ℕ → Bool) → ℕ → ℕ → ℕ → Bool
-unread_in m B top a b = inside top b && is_unread m B a b
+is_unread m B a b = B b && not (reads_alone m a b)
 
 -- the flows from a to a context of B that the policy alone does not let it read
 abbrev pub From : Meaning → (ℕ → Bool) → ℕ → List Move → Type 0
-From m B a = Leads Flow (λ c. nat_eq c a) (unread_in m B m.contexts a)
+From m B a = Leads Flow (λ c. nat_eq c a) (is_unread m B a)
 
 -- of the sources up to `top`, the nearest
 pub record Nearest (m : Meaning) (gs : Grants) (A B : ℕ → Bool) (top : ℕ) (q : Near) : Type 0 where

@@ -1,29 +1,24 @@
-//! Domains: a look at each pair.
-ghost use Rattle.std.specs.Prelude.{◌≡◌, ℕ, ◌≤◌, length, MatchOption, Some, None};
+//! Domains: a look at each context.
+ghost use Rattle.std.specs.Prelude.{◌≡◌, ℕ, ◌≤◌, ◌&&◌, length, MatchOption, Some, None};
 ghost use Rattle.access.specs.Contexts.{member};
-ghost use Rattle.verdicts.specs.Activities.{domain, apart as apart_in, Forbids};
+ghost use Rattle.verdicts.specs.Activities.{contact, domain, apart, Forbids};
+ghost use Rattle.verdicts.specs.Possible.{makeable};
 ghost use Rattle.moves.specs.Regimes.{meaning_of, grants_of};
+ghost use Rattle.moves.specs.Contextual.{IsSetOf};
 ghost use Rattle.judge.specs.Judged.{Tells};
-ghost use Rattle.judge.specs.Crossings.{AcrossAt, AcrossFrom, AcrossAll};
+ghost use Rattle.judge.specs.Crossings.{AcrossFrom, AcrossAll};
 
 use crate::verdict::Verdict;
 use access::context_set::ContextSet;
 use access::policy::Policy;
-use moves::movement::Move;
-use moves::regime::Regime;
+use moves::movement::{Link, Move};
+use moves::moves::Moves;
 use moves::step::Step;
 
-/// Whether exactly one of two contexts is in a set.
-fn apart(set: ContextSet, s: u16, t: u16) -> bool
-    ensures { result ≡ apart_in (member set) s t }
-{
-    set.has(s) != set.has(t)
-}
-
-/// The contacts across the edge of a set.
+/// The contacts across the edge of a set: one end is a member, and the other is none.
 #[derive(Drop)]
-pub(crate) struct Domain<'a, P> {
-    pub(crate) regime: &'a Regime<'a, P>,
+pub(crate) struct Domain<'a, P: Policy> {
+    pub(crate) moves: &'a Moves<'a, P>,
     pub(crate) set: ContextSet,
 }
 
@@ -43,35 +38,37 @@ fn first_step<F: Fn(u16) -> Option<Step>>(contexts: u16, look: F) -> Option<Step
 }
 
 impl<P: Policy> Domain<'_, P> {
-    /// The step by which `s` does something on `t`, if the two are apart and some legal run makes one.
-    fn crossing_at(&self, s: u16, t: u16) -> Option<Step>
-        ensures { AcrossAt (meaning_of P.Policy.meaning self.now.regime.now) (grants_of self.now.regime.now) (member self.now.set) s t result }
+    /// The contexts on which `s` can do something across the edge.
+    fn across(&self, s: u16) -> ContextSet
+        ensures { IsSetOf (λ t. makeable (meaning_of P.Policy.meaning self.now.moves.now.regime) (grants_of self.now.moves.now.regime) (contact s t) && apart (member self.now.set) s t) result }
     {
-        if apart(self.set, s, t) {
-            self.regime.show(Move::Contact(s, t))
+        let reached = self.moves.from(s, Link::Doing);
+        if self.set.has(s) {
+            reached.without(self.set)
         } else {
-            None
+            reached.and(self.set)
         }
     }
 
-    /// The first such step by which `s` does something.
+    /// The step by which `s` does something on the first of them.
     fn crossing_from(&self, s: u16) -> Option<Step>
-        ensures { AcrossFrom (meaning_of P.Policy.meaning self.now.regime.now) (grants_of self.now.regime.now) (member self.now.set) s (meaning_of P.Policy.meaning self.now.regime.now).contexts result }
+        ensures { AcrossFrom (meaning_of P.Policy.meaning self.now.moves.now.regime) (grants_of self.now.moves.now.regime) (member self.now.set) s (meaning_of P.Policy.meaning self.now.moves.now.regime).contexts result }
     {
-        first_step(self.regime.policy.contexts(), |t| self.crossing_at(s, t))
+        let t = self.across(s).first_above(0)?;
+        self.moves.show(Move::Contact(s, t))
     }
 
-    /// The first such step.
+    /// The first such step of all.
     fn crossing(&self) -> Option<Step>
-        ensures { AcrossAll (meaning_of P.Policy.meaning self.now.regime.now) (grants_of self.now.regime.now) (member self.now.set) (meaning_of P.Policy.meaning self.now.regime.now).contexts result }
+        ensures { AcrossAll (meaning_of P.Policy.meaning self.now.moves.now.regime) (grants_of self.now.moves.now.regime) (member self.now.set) (meaning_of P.Policy.meaning self.now.moves.now.regime).contexts result }
     {
-        first_step(self.regime.policy.contexts(), |s| self.crossing_from(s))
+        first_step(self.moves.contexts(), |s| self.crossing_from(s))
     }
 
     /// Judges a domain.
     pub(crate) fn judge(&self, steps: &mut [Step]) -> Verdict
-        requires { (meaning_of P.Policy.meaning self.now.regime.now).contexts ≤ length steps.old }
-        ensures { Tells (meaning_of P.Policy.meaning self.now.regime.now) (grants_of self.now.regime.now) (Forbids (meaning_of P.Policy.meaning self.now.regime.now) (domain (member self.now.set))) steps.old steps.new result }
+        requires { (meaning_of P.Policy.meaning self.now.moves.now.regime).contexts ≤ length steps.old }
+        ensures { Tells (meaning_of P.Policy.meaning self.now.moves.now.regime) (grants_of self.now.moves.now.regime) (Forbids (meaning_of P.Policy.meaning self.now.moves.now.regime) (domain (member self.now.set))) steps.old steps.new result }
     {
         match self.crossing() {
             Some(step) => {

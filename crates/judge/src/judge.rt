@@ -14,36 +14,36 @@ use access::refusal::Refusal;
 use activities::pull::Pull;
 use activities::push::Push;
 use lent::Cleared;
-use moves::regime::Regime;
+use moves::moves::Moves;
 use moves::step::Step;
 use properties::property::{Property, Template};
 use search::Place;
 
 /// The verdict on a property, by its template.
 fn decide<'a, P: Policy>(
-    regime: &'a Regime<'a, P>,
+    moves: &'a Moves<'a, P>,
     property: Property,
     ticks: &mut [u8],
     places: &mut [Place],
     steps: &mut [Step],
 ) -> Verdict
-    requires { Suffices 2 (meaning_of P.Policy.meaning regime.now).contexts ticks.old places.old steps.old }
-    ensures judged { OfContexts (meaning_of P.Policy.meaning regime.now).contexts (property_of property) → Judged (meaning_of P.Policy.meaning regime.now) (grants_of regime.now) (property_of property) steps.old steps.new result }
+    requires { Suffices 2 (meaning_of P.Policy.meaning moves.now.regime).contexts ticks.old places.old steps.old }
+    ensures judged { OfContexts (meaning_of P.Policy.meaning moves.now.regime).contexts (property_of property) → Judged (meaning_of P.Policy.meaning moves.now.regime) (grants_of moves.now.regime) (property_of property) steps.old steps.new result }
     ensures ticks { ticks.new ≡ replicate (length ticks.old) 0 }
 {
     let from = property.first;
     let to = property.second;
     // A match on a closed list: as values, the four ways would need one signature, and they differ in what they take.
     match property.template {
-        Template::Integrity => { by_search::<Push, P>(regime, from, to, ticks, places, steps) }
+        Template::Integrity => { by_search::<Push, P>(moves, from, to, ticks, places, steps) }
         Template::Confidentiality => {
-            by_search::<Pull, P>(regime, from, to, ticks, places, steps)
+            by_search::<Pull, P>(moves, from, to, ticks, places, steps)
         }
         Template::Domain => {
             let _cleared = Cleared::over(ticks);
-            Domain { regime, set: from }.judge(steps)
+            Domain { moves, set: from }.judge(steps)
         }
-        Template::Consistency => Flows { regime, from, to }.judge(ticks, places, steps),
+        Template::Consistency => Flows { moves, from, to }.judge(ticks, places, steps),
     }
 }
 
@@ -52,19 +52,19 @@ fn decide<'a, P: Policy>(
 // Lent memory as three slices (two where no steps are written), and so in `seek`, `measure`, `decide`, `by_search` and `Flows`, with
 // what each asks or promises of them: of a struct of them each contract would owe that it still lends the same three.
 pub fn judge<'a, P: Policy>(
-    regime: &'a Regime<'a, P>,
+    moves: &'a Moves<'a, P>,
     property: Property,
     ticks: &mut [u8],
     places: &mut [Place],
     steps: &mut [Step],
 ) -> Result<Verdict, Refusal>
-    ensures answer { Answered (meaning_of P.Policy.meaning regime.now) (grants_of regime.now) (property_of property) ticks.old places.old places.new steps.old steps.new result }
+    ensures answer { Answered (meaning_of P.Policy.meaning moves.now.regime) (grants_of moves.now.regime) (property_of property) ticks.old places.old places.new steps.old steps.new result }
     ensures ticks { ticks.new ≡ replicate (length ticks.old) 0 }
 {
-    let n = usize::from(regime.policy.contexts());
+    let n = usize::from(moves.contexts());
     if ticks.len() < 2 * n || places.len() < 2 * n || steps.len() < n {
         let _cleared = Cleared::over(ticks);
         return Err(Refusal::ShortMemory);
     }
-    Ok(decide(regime, property, ticks, places, steps))
+    Ok(decide(moves, property, ticks, places, steps))
 }

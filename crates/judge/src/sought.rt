@@ -11,7 +11,7 @@ use crate::verdict::Verdict;
 use access::context_set::ContextSet;
 use access::policy::Policy;
 use activities::activity::Activity;
-use moves::regime::Regime;
+use moves::moves::Moves;
 use moves::step::Step;
 use search::Place;
 use seek::seek::seek;
@@ -19,18 +19,18 @@ use seek::seek::seek;
 /// Judges that no activity of a kind leads from one set to another.
 // Unlike `Flows`, this calls one function with the three, so a struct of them would be built and taken apart once.
 pub(crate) fn by_search<'a, A: Activity, P: Policy>(
-    regime: &'a Regime<'a, P>,
+    moves: &'a Moves<'a, P>,
     from: ContextSet,
     to: ContextSet,
     ticks: &mut [u8],
     places: &mut [Place],
     steps: &mut [Step],
 ) -> Verdict
-    requires { Suffices 2 (meaning_of P.Policy.meaning regime.now).contexts ticks.old places.old steps.old }
-    ensures told { Tells (meaning_of P.Policy.meaning regime.now) (grants_of regime.now) (Leads A.Activity.activities (among (meaning_of P.Policy.meaning regime.now).contexts (member from)) (member to)) steps.old steps.new result }
+    requires { Suffices 2 (meaning_of P.Policy.meaning moves.now.regime).contexts ticks.old places.old steps.old }
+    ensures told { Tells (meaning_of P.Policy.meaning moves.now.regime) (grants_of moves.now.regime) (Leads A.Activity.activities (among (meaning_of P.Policy.meaning moves.now.regime).contexts (member from)) (member to)) steps.old steps.new result }
     ensures ticks { ticks.new ≡ replicate (length ticks.old) 0 }
 {
-    match seek::<A, P>(regime, from, to, ticks, places, steps).unwrap() {
+    match seek::<A, P>(moves, from, to, ticks, places, steps).unwrap() {
         None => Verdict::Guaranteed,
         Some(steps) => Verdict::Broken { steps },
     }

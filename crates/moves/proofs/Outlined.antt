@@ -1,6 +1,6 @@
 -- What bounds the operations that grants give, entry by entry.
 use Rattle.std.proofs.Common.{◌≡◌, ℕ, suc, Bool, true, false, not, ◌&&◌, ◌||◌, cond, T, List, [], ◌∷◌, ◌++◌, Some, None, Option, sym, refl, ap, ◌∙◌, subst, ⊎_elim}
-use lib.Bits.{bit_and, bit_or, or_zero_r, and_zero_l}
+use lib.Bits.{bit_and, bit_or, or_zero_r, and_zero_l, and_zero_r}
 use Rattle.access.specs.Operations.{has, without}
 use Rattle.access.proofs.Bits.{has_none, has_and, has_or, has_without, or_assoc, same_bits}
 use Rattle.access.proofs.Tests.{left, right, both_parts, T_false}
@@ -45,20 +45,21 @@ module _ (gs : Grants) where
 
 -- where nothing that is permitted and not written is among the most that grants give, what they give adds nothing
 module _ (p w most given : ℕ) (h : Holds most given) where
-  pub nothing_added : bit_and (without p w) most ≡ 0 → bit_and p w ≡ bit_and p (bit_or w given)
+  pub nothing_added : bit_and (without p w) most ≡ 0 → bit_and w p ≡ bit_and p (bit_or w given)
   nothing_added e = same_bits _ _ (λ o.
-      has_and p w o ∙ bits (has p o) (has w o) (has given o) (open_not o) ∙ sym (has_and p (bit_or w given) o ∙ ap (λ b. has p o && b) (has_or w given o)))
+      has_and w p o ∙ bits (has p o) (has w o) (has given o) (open_not o) ∙ sym (has_and p (bit_or w given) o ∙ ap (λ b. has p o && b) (has_or w given o)))
     where
       open_not : (o : ℕ) → T (has given o) → (has p o && not (has w o)) ≡ false
       open_not o g =
           T_false _ (λ t. subst T (has_none o) (subst (λ x. T (has x o)) e (has_both (without p w) most o (subst T (sym (has_without p w o)) t) (h o g))))
 
-      bits : (p w g : Bool) → (T g → (p && not w) ≡ false) → (p && w) ≡ (p && (w || g))
-      bits false w g f = refl
+      bits : (p w g : Bool) → (T g → (p && not w) ≡ false) → (w && p) ≡ (p && (w || g))
+      bits false true g f = refl
+      bits false false g f = refl
       bits true true g f = refl
       bits true false false f = refl
       bits true false true f = sym (f tt)
 
 -- nor where nothing is permitted
-pub none_permitted : (p w given : ℕ) → p ≡ 0 → bit_and p w ≡ bit_and p (bit_or w given)
-none_permitted p w given e = ap (λ x. bit_and x w) e ∙ and_zero_l w ∙ sym (ap (λ x. bit_and x (bit_or w given)) e ∙ and_zero_l (bit_or w given))
+pub none_permitted : (p w given : ℕ) → p ≡ 0 → bit_and w p ≡ bit_and p (bit_or w given)
+none_permitted p w given e = ap (bit_and w) e ∙ and_zero_r w ∙ sym (ap (λ x. bit_and x (bit_or w given)) e ∙ and_zero_l (bit_or w given))

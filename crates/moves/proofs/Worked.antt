@@ -16,7 +16,7 @@ use Rattle.verdicts.specs.Activities.{transfer, contact}
 use Rattle.verdicts.specs.Possible.{possible, granted, makeable, some_op}
 use Rattle.verdicts.proofs.Moves.{some_op_found}
 use Rattle.moves.specs.Contextual.{value_of, IsSetOf}
-use Rattle.moves.specs.Done.{IsEmpty, IsNothing, DoneBy, Given}
+use Rattle.moves.specs.Done.{allowed, IsEmpty, IsNothing, DoneBy, Given}
 use Rattle.moves.specs.declared.by_context.ByContext.{ByContext}
 use Rattle.moves.specs.declared.moves.Doings.{Doings}
 use Rattle.moves.proofs.Selected.{of_kinds, some_in, whole}
@@ -32,28 +32,26 @@ module _ (m : Meaning) (gs : Grants) (l : Sound m) where
   pub possible_outside : (s t : ℕ) → both_inside n s t ≡ false → possible m gs s t ≡ 0
   possible_outside s t e = ap (λ x. bit_and x (bit_or (m.written s t) (granted gs s t))) (l.permitted_inside s t e) ∙ and_zero_l (bit_or (m.written s t) (granted gs s t))
 
-  -- some operation of a set is possible on a pair
-  abbrev hits : ℕ → ℕ → ℕ → Bool
-  hits among s t = not (eqb (bit_and among (possible m gs s t)) 0)
+  pub allowed_outside : (s t : ℕ) → both_inside n s t ≡ false → allowed m s t ≡ 0
+  allowed_outside s t e = ap (bit_and (m.written s t)) (l.permitted_inside s t e) ∙ and_zero_r (m.written s t)
 
-  outside_not : (among s t : ℕ) → both_inside n s t ≡ false → hits among s t ≡ false
-  outside_not among s t e = ap (λ x. not (eqb x 0)) (ap (bit_and among) (possible_outside s t e) ∙ and_zero_r among)
-
-  module _ (s : ℕ) (bits : ℕ → ℕ) (is : (t : ℕ) → inside n t ≡ true → bits t ≡ possible m gs s t) (set : ContextSet) (among : ℕ)
-      (told : IsSetOf (λ t. inside n t && not (eqb (bit_and among (bits t)) 0)) set) where
-    -- a set that was made of the operations of one context is that of the targets on which some of them are possible
-    pub set_hits : IsSetOf (hits among s) set
+  -- a set that was made of the operations on the pairs of one context has the targets on which some of them are of a set
+  module _ (on : ℕ → ℕ → ℕ) (none_outside : (s t : ℕ) → both_inside n s t ≡ false → on s t ≡ 0) (s : ℕ) (bits : ℕ → ℕ) (is : (t : ℕ) → inside n t ≡ true → bits t ≡ on s t)
+      (set : ContextSet) (among : ℕ) (told : IsSetOf (λ t. inside n t && not (eqb (bit_and among (bits t)) 0)) set) where
+    set_hits : IsSetOf (λ t. not (eqb (bit_and among (on s t)) 0)) set
     set_hits t =
         ⊎_elim
         (λ (e : inside n t ≡ true). told t ∙ ap₂ (λ b x. b && not (eqb (bit_and among x) 0)) e (is t e))
-        (λ (e : inside n t ≡ false). told t ∙ ap (λ b. b && not (eqb (bit_and among (bits t)) 0)) e ∙ sym (outside_not among s t (and_right (inside n s) (inside n t) e)))
+        (λ (e : inside n t ≡ false). told t ∙ ap (λ b. b && not (eqb (bit_and among (bits t)) 0)) e ∙ sym (ap (λ x. not (eqb x 0)) (ap (bit_and among) (none_outside s t (and_right (inside n s) (inside n t) e)) ∙ and_zero_r among)))
         (cases_Bool (inside n t))
 
-    pub set_of_kinds : (test : Kind → Bool) → (T (test Neither) → ⊥) → among ≡ of_kinds test → IsSetOf (λ t. some_op (λ o. test (kind_of o)) (possible m gs s t)) set
-    set_of_kinds test none e t = set_hits t ∙ ap (λ x. not (eqb (bit_and x (possible m gs s t)) 0)) e ∙ some_in test none (possible m gs s t)
+    pub set_of_kinds : (test : Kind → Bool) → (T (test Neither) → ⊥) → among ≡ of_kinds test → IsSetOf (λ t. some_op (λ o. test (kind_of o)) (on s t)) set
+    set_of_kinds test none e t = set_hits t ∙ ap (λ x. not (eqb (bit_and x (on s t)) 0)) e ∙ some_in test none (on s t)
 
-    pub set_of_any : among ≡ set_of any_op 12 → IsSetOf (λ t. makeable m gs (contact s t)) set
-    set_of_any e t = set_hits t ∙ ap (λ x. not (eqb x 0)) (ap (λ x. bit_and x (possible m gs s t)) e ∙ same_bits _ _ (whole m gs l s t))
+  pub set_of_any : (s : ℕ) (bits : ℕ → ℕ) → ((t : ℕ) → inside n t ≡ true → bits t ≡ possible m gs s t) → (set : ContextSet) (among : ℕ) → IsSetOf (λ t. inside n t && not (eqb (bit_and among (bits t)) 0)) set
+      → among ≡ set_of any_op 12 → IsSetOf (λ t. makeable m gs (contact s t)) set
+  set_of_any s bits is set among told e t =
+      set_hits (possible m gs) possible_outside s bits is set among told t ∙ ap (λ x. not (eqb x 0)) (ap (λ x. bit_and x (possible m gs s t)) e ∙ same_bits _ _ (whole m gs l s t))
 
   -- outside the contexts no operation passes a test
   pub some_outside : (test : ℕ → Bool) (s t : ℕ) → both_inside n s t ≡ false → some_op test (possible m gs s t) ≡ false
@@ -75,7 +73,8 @@ module _ (m : Meaning) (gs : Grants) (l : Sound m) where
         becoming = λ t. none.0 t ∙ sym (some_outside become_op s t (out t));
         writing = λ t. none.1 t ∙ sym (some_outside write_op s t (out t));
         reading = λ t. none.2 t ∙ sym (some_outside read_op s t (out t));
-        doing = λ t. none.3 t ∙ sym (ap (λ x. not (eqb x 0)) (possible_outside s t (out t)));
+        reading_alone = λ t. none.3 t ∙ sym (ap (some_op read_op) (allowed_outside s t (out t)) ∙ some_none read_op);
+        doing = λ t. none.4 t ∙ sym (ap (λ x. not (eqb x 0)) (possible_outside s t (out t)));
       }
 
   -- the transfers from one context, and those to one

@@ -5,22 +5,24 @@ ghost use Rattle.verdicts.specs.Possible.{makeable};
 ghost use Rattle.moves.specs.Regimes.{meaning_of, grants_of};
 ghost use Rattle.moves.specs.Moved.{linked};
 ghost use Rattle.moves.specs.Contextual.{value_of, IsSetOf};
-ghost use Rattle.moves.specs.Done.{IsNothing, DoneBy, Given, Gotten};
+ghost use Rattle.moves.specs.Done.{reads_alone, IsNothing, DoneBy, Given, Gotten};
 
 use crate::by_context::ByContext;
 use crate::movement::Link;
-use crate::outline::Outlined;
+use crate::outline::{OnPair, Outlined};
 use crate::regime::Regime;
 use access::context_set::ContextSet;
 use access::operation_set::OperationSet;
 use access::policy::Policy;
 
-/// What a context can do in some legal run: which contexts it can become, write to, read from, and do anything on.
+/// What a context can do in some legal run: which contexts it can become, write to, read from, and do anything on; and which the
+/// policy alone lets it read.
 #[derive(Clone, Copy)]
 struct Doings {
     becoming: ContextSet,
     writing: ContextSet,
     reading: ContextSet,
+    reading_alone: ContextSet,
     doing: ContextSet,
 }
 
@@ -45,11 +47,19 @@ fn passing<F: Fn(u16) -> bool>(contexts: u16, test: F) -> ContextSet
 }
 
 /// The contexts on which some operation of a set is possible.
-fn among(contexts: u16, possible: &ByContext<OperationSet>, set: OperationSet) -> ContextSet
+fn possible(contexts: u16, pairs: &ByContext<OnPair>, set: OperationSet) -> ContextSet
     requires { contexts ≤ 256 }
-    ensures { IsSetOf (λ d. inside contexts d && not (bit_and set.bits (value_of possible.now d).bits == 0)) result }
+    ensures { IsSetOf (λ d. inside contexts d && not (bit_and set.bits (value_of pairs.now d).possible.bits == 0)) result }
 {
-    passing(contexts, |t| !set.and(possible.at(t)).is_empty())
+    passing(contexts, |t| !set.and(pairs.at(t).possible).is_empty())
+}
+
+/// The contexts on which the policy alone allows some operation of a set.
+fn allowed(contexts: u16, pairs: &ByContext<OnPair>, set: OperationSet) -> ContextSet
+    requires { contexts ≤ 256 }
+    ensures { IsSetOf (λ d. inside contexts d && not (bit_and set.bits (value_of pairs.now d).allowed.bits == 0)) result }
+{
+    passing(contexts, |t| !set.and(pairs.at(t).allowed).is_empty())
 }
 
 impl<P: Policy> Outlined<'_, P> {
@@ -58,12 +68,17 @@ impl<P: Policy> Outlined<'_, P> {
         ensures { DoneBy (meaning_of P.Policy.meaning self.now.regime.now) (grants_of self.now.regime.now) s result }
     {
         let n = self.regime.policy.contexts();
-        let possible = ByContext::of(n, OperationSet::none(), |t| self.possible(s, t));
+        let nothing = OnPair {
+            allowed: OperationSet::none(),
+            possible: OperationSet::none(),
+        };
+        let pairs = ByContext::of(n, nothing, |t| self.on_pair(s, t));
         Doings {
-            becoming: among(n, &possible, OperationSet::transition()),
-            writing: among(n, &possible, OperationSet::write_like()),
-            reading: among(n, &possible, OperationSet::read_like()),
-            doing: among(n, &possible, OperationSet::all()),
+            becoming: possible(n, &pairs, OperationSet::transition()),
+            writing: possible(n, &pairs, OperationSet::write_like()),
+            reading: possible(n, &pairs, OperationSet::read_like()),
+            reading_alone: allowed(n, &pairs, OperationSet::read_like()),
+            doing: possible(n, &pairs, OperationSet::all()),
         }
     }
 }
@@ -89,6 +104,7 @@ impl Doings {
             becoming: none,
             writing: none,
             reading: none,
+            reading_alone: none,
             doing: none,
         }
     }
@@ -143,12 +159,6 @@ impl<'a, P: Policy> Moves<'a, P> {
         }
     }
 
-    pub fn regime(&self) -> &Regime<'a, P>
-        ensures { result.now ≡ self.now.regime }
-    {
-        &self.regime
-    }
-
     /// How many contexts there are.
     pub fn contexts(&self) -> u16
         ensures { result ≡ (meaning_of P.Policy.meaning self.now.regime).contexts }
@@ -166,5 +176,11 @@ impl<'a, P: Policy> Moves<'a, P> {
             Link::Getting => self.getting.at(context),
             Link::Doing => self.doings.at(context).doing,
         }
+    }
+    /// The contexts that the policy alone, grants left aside, lets a context read.
+    pub fn read_alone(&self, context: u16) -> ContextSet
+        ensures { IsSetOf (reads_alone (meaning_of P.Policy.meaning self.now.regime) context) result }
+    {
+        self.doings.at(context).reading_alone
     }
 }

@@ -5,6 +5,7 @@ ghost use Rattle.verdicts.specs.Possible.{granted, possible as possible_on};
 ghost use Rattle.moves.specs.Grants.{standing};
 ghost use Rattle.moves.specs.Regimes.{meaning_of, grants_of};
 ghost use Rattle.moves.specs.Contextual.{value_of};
+ghost use Rattle.moves.specs.Done.{allowed as allowed_on};
 ghost use Rattle.moves.specs.Outlines.{offered, offered_by, Holds, KeptOf};
 
 use crate::by_context::ByContext;
@@ -53,6 +54,13 @@ fn granted_on_any(grants: &[Option<Grant>; 32], t: u16) -> OperationSet
     )
 }
 
+/// What one context can do on another: by the policy alone, and in some legal run.
+#[derive(Clone, Copy)]
+pub(crate) struct OnPair {
+    pub(crate) allowed: OperationSet,
+    pub(crate) possible: OperationSet,
+}
+
 /// A regime, with the operations that its grants give at most: to each context on any, and to any on each context.
 // On most pairs these show at once that no grant gives anything more.
 #[derive(Drop)]
@@ -84,17 +92,25 @@ impl<'a, P: Policy> Outlined<'a, P> {
         self.to.at(s).and(self.on.at(t))
     }
 
-    /// The operations that `s` can do on `t` in some legal run.
+    /// What `s` can do on `t`. The policy is asked once for what is written, and once for what is permitted.
     // The grants come last, where something is permitted that is not written, and some grant might give it.
-    pub(crate) fn possible(&self, s: u16, t: u16) -> OperationSet
-        ensures { result.bits ≡ possible_on (meaning_of P.Policy.meaning self.now.regime.now) (grants_of self.now.regime.now) s t }
+    pub(crate) fn on_pair(&self, s: u16, t: u16) -> OnPair
+        ensures allowed { result.allowed.bits ≡ allowed_on (meaning_of P.Policy.meaning self.now.regime.now) s t }
+        ensures possible { result.possible.bits ≡ possible_on (meaning_of P.Policy.meaning self.now.regime.now) (grants_of self.now.regime.now) s t }
     {
         let permitted = self.regime.policy.permitted(s, t);
         let written = self.regime.policy.written(s, t);
+        let allowed = written.and(permitted);
         let left = permitted.without(written);
         if left.and(self.at_most(s, t)).is_empty() {
-            return permitted.and(written);
+            return OnPair {
+                allowed,
+                possible: allowed,
+            };
         }
-        permitted.and(written.or(granted_on(self.regime.grants, s, t)))
+        OnPair {
+            allowed,
+            possible: permitted.and(written.or(granted_on(self.regime.grants, s, t))),
+        }
     }
 }

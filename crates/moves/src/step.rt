@@ -31,8 +31,8 @@ impl<P: Policy> Moves<'_, P> {
         requires { T (has (possible_on (meaning_of P.Policy.meaning self.now.regime) (grants_of self.now.regime) s t) (number_of operation)) }
         ensures { Origin (meaning_of P.Policy.meaning self.now.regime) (grants_of self.now.regime) (doing s t (number_of operation)) result }
     {
-        let own = self.regime.policy.written(s, t).and(self.regime.policy.permitted(s, t));
-        if own.has(operation) {
+        let policy = self.regime.policy;
+        if policy.written(s, t).and(policy.permitted(s, t)).has(operation) {
             return 0;
         }
         lowest_giver(self.regime.grants, s, t, operation).unwrap()

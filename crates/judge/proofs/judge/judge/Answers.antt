@@ -9,7 +9,7 @@ returns g c =
     record {
       answer = (
         record { ticks_fit = omega (arith, c.if-ticks-n.false, c.contexts.ensures, c.from-n.ensures); places_fit = omega (arith, c.if-places-n.false, c.contexts.ensures, c.from-n.ensures); steps_fit = omega (arith, c.if-steps-n.false, c.contexts.ensures, c.from-n.ensures) },
-        λ o. let j = c.decide.ensures.judged o in (j, sure (meaning_of g.P.Policy.meaning c.args.regime.now) (grants_of c.args.regime.now) c.args.steps.now c.decide.new.steps (property_of c.args.property) c.decide.result j),
+        λ o. let j = c.decide.ensures.judged o in (j, sure (meaning_of g.P.Policy.meaning c.args.moves.now.regime) (grants_of c.args.moves.now.regime) c.args.steps.now c.decide.new.steps (property_of c.args.property) c.decide.result j),
       );
       ticks = c.decide.ensures.ticks;
     }

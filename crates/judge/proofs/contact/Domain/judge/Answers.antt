@@ -6,8 +6,8 @@ use Rattle.judge.proofs.contact.Domain.judge.Goals as goal
 
 pub returns-in-Some : goal.returns-in-Some
 returns-in-Some g c =
-    contact_some (meaning_of g.P.Policy.meaning c.args.self.now.regime.now) (grants_of c.args.self.now.regime.now) (g.met.P.Policy.sound c.args.self.now.regime.now.policy.now) (member c.args.self.now.set) c.args.steps.now c.in-Some.step c.requires c.in-Some.ensures
+    contact_some (meaning_of g.P.Policy.meaning c.args.self.now.moves.now.regime) (grants_of c.args.self.now.moves.now.regime) (g.met.P.Policy.sound c.args.self.now.moves.now.regime.policy.now) (member c.args.self.now.set) c.args.steps.now c.in-Some.step c.requires c.in-Some.ensures
 
 pub returns-in-None : goal.returns-in-None
 returns-in-None g c =
-    (contact_none (meaning_of g.P.Policy.meaning c.args.self.now.regime.now) (grants_of c.args.self.now.regime.now) (g.met.P.Policy.sound c.args.self.now.regime.now.policy.now) (member c.args.self.now.set) c.in-None.ensures, refl)
+    (contact_none (meaning_of g.P.Policy.meaning c.args.self.now.moves.now.regime) (grants_of c.args.self.now.moves.now.regime) (g.met.P.Policy.sound c.args.self.now.moves.now.regime.policy.now) (member c.args.self.now.set) c.in-None.ensures, refl)

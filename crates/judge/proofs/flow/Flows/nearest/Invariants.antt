@@ -5,4 +5,4 @@ use Rattle.judge.specs.Flows.{Best}
 use Rattle.judge.proofs.flow.Flows.nearest.Given as goal
 
 abbrev pub invariant-loop-a : goal.invariant-loop-a
-invariant-loop-a g l = Best (meaning_of g.P.Policy.meaning l.self.regime.now) (grants_of l.self.regime.now) (member l.self.from) (member l.self.to) (l.a - 1) l.best
+invariant-loop-a g l = Best (meaning_of g.P.Policy.meaning l.self.moves.now.regime) (grants_of l.self.moves.now.regime) (member l.self.from) (member l.self.to) (l.a - 1) l.best

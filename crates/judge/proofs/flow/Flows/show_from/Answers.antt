@@ -7,7 +7,7 @@ pub returns : goal.returns
 returns g c =
     record {
       shown =
-          searched_from (meaning_of g.P.Policy.meaning c.args.self.now.regime.now) (grants_of c.args.self.now.regime.now) (g.met.P.Policy.sound c.args.self.now.regime.now.policy.now) (member c.args.self.now.to) c.args.a c.ends.result c.ends.ensures
+          searched_from (meaning_of g.P.Policy.meaning c.args.self.now.moves.now.regime) (grants_of c.args.self.now.moves.now.regime) (g.met.P.Policy.sound c.args.self.now.moves.now.regime.policy.now) (member c.args.self.now.to) c.args.a c.ends.result c.ends.ensures
           c.none.result c.with-one.result c.requires.first c.requires.last c.none.ensures c.with-one.ensures c.args.steps.now c.seek.new.steps c.unwrap.result (rw c.unwrap.ensures at c.seek.ensures.answer).1;
       ticks = c.seek.ensures.ticks;
     }

@@ -6,7 +6,8 @@ use Rattle.access.specs.Contexts.{inside}
 use Rattle.access.specs.declared.context_set.ContextSet.{ContextSet}
 use Rattle.verdicts.specs.Possible.{possible}
 use Rattle.moves.specs.Contextual.{value_of, IsSetOf}
-use Rattle.moves.proofs.Worked.{set_of_kinds, set_of_any}
+use Rattle.moves.specs.Done.{allowed}
+use Rattle.moves.proofs.Worked.{possible_outside, allowed_outside, set_of_kinds, set_of_any}
 use Rattle.moves.proofs.outline.Outlined.doings.Goals as goal
 
 pub returns : goal.returns
@@ -15,12 +16,17 @@ returns g c =
     let gs = grants_of c.args.self.now.regime.now in
     let l = g.met.P.Policy.sound c.args.self.now.regime.now.policy.now in
     let s = c.args.s in
-    let bits : ℕ → ℕ = (λ t. (value_of c.of-possible.result t).bits) in
-    let is : (t : ℕ) → inside m.contexts t ≡ true → bits t ≡ possible m gs s t = (λ t e. let given = c.of-possible.ensures.given t in search rules) in
-    let told = (λ (set : ContextSet) (among : ℕ) (is : IsSetOf (λ t. inside c.contexts-n.result t && not (eqb (bit_and among (bits t)) 0)) set). subst (λ n. IsSetOf (λ t. inside n t && not (eqb (bit_and among (bits t)) 0)) set) c.contexts-n.ensures is) in
+    let n = c.contexts-n.result in
+    let could : ℕ → ℕ = (λ t. (value_of c.of-pairs.result t).possible.bits) in
+    let may : ℕ → ℕ = (λ t. (value_of c.of-pairs.result t).allowed.bits) in
+    let could_is : (t : ℕ) → inside m.contexts t ≡ true → could t ≡ possible m gs s t = (λ t e. let given = c.of-pairs.ensures.given t in search rules) in
+    let may_is : (t : ℕ) → inside m.contexts t ≡ true → may t ≡ allowed m s t = (λ t e. let given = c.of-pairs.ensures.given t in search rules) in
+    let told = (λ (bits : ℕ → ℕ) (set : ContextSet) (among : ℕ) (is : IsSetOf (λ t. inside n t && not (eqb (bit_and among (bits t)) 0)) set). subst (λ n. IsSetOf (λ t. inside n t && not (eqb (bit_and among (bits t)) 0)) set) c.contexts-n.ensures is) in
+    let of_kinds = set_of_kinds m gs l (possible m gs) (possible_outside m gs l) s could could_is in
     record {
-      becoming = set_of_kinds m gs l s bits is c.among.result c.transition.result.bits (told _ _ c.among.ensures) become_like (λ e. e) c.transition.ensures;
-      writing = set_of_kinds m gs l s bits is c.among-2.result c.write_like.result.bits (told _ _ c.among-2.ensures) write_like (λ e. e) c.write_like.ensures;
-      reading = set_of_kinds m gs l s bits is c.among-3.result c.read_like.result.bits (told _ _ c.among-3.ensures) read_like (λ e. e) c.read_like.ensures;
-      doing = set_of_any m gs l s bits is c.among-4.result c.all.result.bits (told _ _ c.among-4.ensures) c.all.ensures;
+      becoming = of_kinds c.possible.result c.transition.result.bits (told could _ _ c.possible.ensures) become_like (λ e. e) c.transition.ensures;
+      writing = of_kinds c.possible-2.result c.write_like.result.bits (told could _ _ c.possible-2.ensures) write_like (λ e. e) c.write_like.ensures;
+      reading = of_kinds c.possible-3.result c.read_like.result.bits (told could _ _ c.possible-3.ensures) read_like (λ e. e) c.read_like.ensures;
+      reading_alone = set_of_kinds m gs l (allowed m) (allowed_outside m gs l) s may may_is c.allowed.result c.read_like-2.result.bits (told may _ _ c.allowed.ensures) read_like (λ e. e) c.read_like-2.ensures;
+      doing = set_of_any m gs l s could could_is c.possible-4.result c.all.result.bits (told could _ _ c.possible-4.ensures) c.all.ensures;
     }

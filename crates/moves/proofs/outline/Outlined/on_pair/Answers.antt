@@ -4,10 +4,10 @@ use Rattle.access.specs.Contexts.{both_inside}
 use Rattle.verdicts.specs.Possible.{granted}
 use Rattle.moves.specs.Regimes.{grants_of}
 use Rattle.moves.proofs.Outlined.{nothing_added, none_permitted}
-use Rattle.moves.proofs.outline.Outlined.possible.Goals as goal
+use Rattle.moves.proofs.outline.Outlined.on_pair.Goals as goal
 
-pub returns-then-is_empty : goal.returns-then-is_empty
-returns-then-is_empty g c =
+pub returns-then-is_empty-clause-possible : goal.returns-then-is_empty-clause-possible
+returns-then-is_empty-clause-possible g c =
     let p = c.args.self.now.regime.now.policy.now in
     let m = g.P.Policy.meaning p in
     let gs = grants_of c.args.self.now.regime.now in
