@@ -28,8 +28,8 @@ pub trait Graph {
     fn nodes(&self) -> u16
         ensures { result ≡ (problem self.now).nodes };
 
-    // A search asks for the next node, and not about each: a graph may know that node without a look at those before it.
     /// The first source from the number `start` on.
+    // A search asks for the next node, and not about each: a graph may know that node without a look at those before it.
     fn next_source(&self, start: u16) -> Option<u16>
         ensures { First (problem self.now).source start (problem self.now).nodes result };
 
