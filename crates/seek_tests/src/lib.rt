@@ -1,6 +1,10 @@
-//! Seeking on small policies: the detour, the sample controller, ties between giver and taker, and short memory.
+//! Seeking on small policies: the detour, the sample controller, ties between giver and taker, short memory, and how often a policy
+//! is asked.
 
 #![tactic(auto)]
+
+#[cfg(test)]
+mod counting;
 
 #[cfg(test)]
 mod tests {
