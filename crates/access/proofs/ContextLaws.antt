@@ -143,6 +143,9 @@ some_no (suc n) p h = or_from (p (suc n)) (some_to n p) (h (suc n)) (some_no n p
 abbrev pub NoneBefore : ℕ → ContextSet → ℕ → Type 0
 NoneBefore n s i = (d : ℕ) → n < d → d ≤ 64 * i → member s d ≡ false
 
+pub none_to_start : (n : ℕ) (s : ContextSet) → NoneBefore n s (n / 64)
+none_to_start n s d l m = absurd (omega (arith, l, m))
+
 module _ (n : ℕ) (s : ContextSet) (i : ℕ) (before : NoneBefore n s i) where
   abbrev word : ℕ
   word = get_or s.words i 0
