@@ -18,7 +18,11 @@ use sheet::judging::Judging;
 const MOST_PROPERTIES: u16 = 64;
 
 /// Why a property is not reported where report memory is too short.
-fn refusal_without_memory<P: Policy>(judging: &Judging<'_, P>, number: u16, ticks: &mut [u8]) -> Refusal
+fn refusal_without_memory<P: Policy>(
+    judging: &Judging<'_, P>,
+    number: u16,
+    ticks: &mut [u8],
+) -> Refusal
     ensures answer { (b : Book) (places steps : ℕ) → Stands P.Policy.meaning b judging.now.sheet.now → reporting_refusal b number (length ticks.old) places steps 0 ≡ Some result }
     ensures ticks { ticks.new ≡ replicate (length ticks.old) 0 }
 {

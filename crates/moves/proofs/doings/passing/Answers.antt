@@ -1,6 +1,6 @@
 use Rattle.std.proofs.Common.{◌≡◌, subst, arith}
 use Rattle.moves.proofs.Collected.{Collected, collected_none, collect}
-use Rattle.moves.proofs.moves.passing.Goals as goal
+use Rattle.moves.proofs.doings.passing.Goals as goal
 
 pub loop-index-init : goal.loop-index-init
 loop-index-init g c = λ p is. collected_none p c.none-set.result c.none-set.ensures

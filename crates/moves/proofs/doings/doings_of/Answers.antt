@@ -3,7 +3,7 @@ use Rattle.std.proofs.lemmas.Bool.{cases_Bool}
 use Rattle.access.specs.Contexts.{inside}
 use Rattle.moves.specs.Regimes.{grants_of}
 use Rattle.moves.proofs.Worked.{nothing_done}
-use Rattle.moves.proofs.moves.doings_of.Goals as goal
+use Rattle.moves.proofs.doings.doings_of.Goals as goal
 
 pub returns : goal.returns
 returns g c = λ s.
