@@ -76,8 +76,8 @@ impl<'a, P: Policy> Moves<'a, P> {
     {
         match link {
             Link::Becoming => self.doings.at(context).becoming,
-            Link::Giving => self.giving.at(context),
-            Link::Getting => self.getting.at(context),
+            Link::Giving => *self.giving.at(context),
+            Link::Getting => *self.getting.at(context),
             Link::Doing => self.doings.at(context).doing,
         }
     }
