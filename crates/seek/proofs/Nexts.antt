@@ -1,5 +1,5 @@
 -- The next node of a graph of contexts at phases, by the first member of a set.
-use Rattle.std.proofs.Common.{◌≡◌, ℕ, ◌+◌, ◌-◌, ◌*◌, ◌/◌, ◌%◌, ◌<◌, ◌≤◌, max, Bool, false, ◌&&◌, leb, Some, None, Option, sym, ap, ap₂, ◌∙◌, subst, ⊎_elim, mod-lt, arith}
+use Rattle.std.proofs.Common.{◌≡◌, ℕ, ◌+◌, ◌-◌, ◌*◌, ◌/◌, ◌%◌, ◌<◌, ◌≤◌, Bool, false, ◌&&◌, leb, Some, None, Option, sym, ap, ap₂, ◌∙◌, subst, ⊎_elim, mod-lt, arith}
 use Rattle.std.proofs.lemmas.Bool.{cases_lt, and_left, le-leb, lt-leb, ne_eqb, eq-eqb}
 use Rattle.std.proofs.Math.Nat.{mul-le-mul_right}
 use Rattle.std.proofs.lemmas.Nat.{div-mul-add, div-add-mod'}
@@ -86,27 +86,12 @@ module _ (kind : Search) (m : Meaning) (gs : Grants) (some : 1 ≤ m.contexts) (
   abbrev n : ℕ
   n = m.contexts
 
-  none_earlier : NoneBelow kind m gs u start (phase n u)
+  pub none_earlier : NoneBelow kind m gs u start (phase n u)
   none_earlier v low high =
       and_left _ _ (lt-leb (phase n u) (phase n v) (⊎_elim
       (λ (l : phase n v < phase n u). l)
       (λ (l : phase n u ≤ phase n v). absurd (omega (arith, phase_low n some v, mul-le-mul_right n l)))
       (cases_lt (phase n v) (phase n u))))
-
-  none_before : NoneBelow kind m gs u start (phase n start)
-  none_before v low high = absurd (omega (arith, low, high, phase_low n some start))
-
-  -- so none to a phase before that of u or that of `start`
-  pub none_first : NoneBelow kind m gs u start (max (phase n u) (phase n start))
-  none_first v low high =
-      ⊎_elim
-      (λ (l : phase n u < phase n start).
-      let e : max (phase n u) (phase n start) ≡ phase n start = omega arith in
-      none_before v low (subst (λ q. v < q * n) e high))
-      (λ (l : phase n start ≤ phase n u).
-      let e : max (phase n u) (phase n start) ≡ phase n u = omega arith in
-      none_earlier v low (subst (λ q. v < q * n) e high))
-      (cases_lt (phase n u) (phase n start))
 
   module _ (q : ℕ) (later : phase n u ≤ q) (below : NoneBelow kind m gs u start q) (A : ℕ → Bool) (reaches : (d : ℕ) → A d ≡ makeable m gs (kind.move q (context n u) d)) where
     edge_in : (v : ℕ) → q * n ≤ v → v < q * n + n → edge kind m gs u v ≡ A (context n v)

@@ -94,9 +94,7 @@ impl<A: Activity, P: Policy> Graph for Chart<'_, A, P> {
 
     fn next_edge(&self, from: u16, start: u16) -> Option<u16> {
         let context = self.context_of(from);
-        // No edge leads back to an earlier phase, and no node of one before that of `start` is asked for.
-        let first = self.phase_of(from).max(self.phase_of(start));
-        for phase in first..A::PHASES {
+        for phase in self.phase_of(from)..A::PHASES {
             let reached = self.moves.from(context, A::link(phase));
             if let Some(node) = self.first_at(phase, reached, start) {
                 return Some(node);

@@ -1,4 +1,4 @@
-use Rattle.std.proofs.Common.{◌≤◌, ℕ, ◌+◌, ◌*◌, ◌∙◌, sym, ap, ap₂, max, subst, arith}
+use Rattle.std.proofs.Common.{◌≤◌, ℕ, ◌+◌, ◌*◌, ◌∙◌, sym, ap, subst, arith}
 use Rattle.std.proofs.Math.Nat.{mul-le-mul_right}
 use Rattle.access.specs.Contexts.{member}
 use Rattle.verdicts.specs.Possible.{makeable}
@@ -6,16 +6,15 @@ use Rattle.moves.specs.Regimes.{grants_of}
 use Rattle.moves.specs.Moved.{linked}
 use Rattle.activities.specs.Nodes.{phase, context}
 use Rattle.seek.specs.Plan.{FirstInPhase}
-use Rattle.seek.proofs.Nexts.{NoneBelow, none_first, none_here, edge_first}
+use Rattle.seek.proofs.Nexts.{NoneBelow, none_earlier, none_here, edge_first}
 use Rattle.seek.proofs.chart.ChartGraph.next_edge.Goals as goal
 
 pub loop-phase-init : goal.loop-phase-init
 loop-phase-init g c =
     let r = c.args.self.now.moves.now.regime in
     let m = g.P.Policy.meaning r.policy.now in
-    let first = c.max-first.ensures ∙ ap₂ max c.phase_of.ensures c.phase_of-2.ensures in
-    subst (λ q. (phase m.contexts c.args.from ≤ q) × NoneBelow g.A.Activity.kind m (grants_of r) c.args.from c.args.start q) (sym first)
-    (omega arith, none_first g.A.Activity.kind m (grants_of r) (g.met.P.Policy.sound r.policy.now).a_context c.args.from c.args.start)
+    subst (λ q. (phase m.contexts c.args.from ≤ q) × NoneBelow g.A.Activity.kind m (grants_of r) c.args.from c.args.start q) (sym c.phase_of-phase.ensures)
+    (omega arith, none_earlier g.A.Activity.kind m (grants_of r) (g.met.P.Policy.sound r.policy.now).a_context c.args.from c.args.start)
 
 pub returns-in-Some : goal.returns-in-Some
 returns-in-Some g c =
