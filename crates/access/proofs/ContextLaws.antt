@@ -143,6 +143,9 @@ some_no (suc n) p h = or_from (p (suc n)) (some_to n p) (h (suc n)) (some_no n p
 abbrev pub NoneBefore : ℕ → ContextSet → ℕ → Type 0
 NoneBefore n s i = (d : ℕ) → n < d → d ≤ 64 * i → member s d ≡ false
 
+pub none_to_start : (n : ℕ) (s : ContextSet) → NoneBefore n s (n / 64)
+none_to_start n s d l m = absurd (omega (arith, l, m))
+
 module _ (n : ℕ) (s : ContextSet) (i : ℕ) (before : NoneBefore n s i) where
   abbrev word : ℕ
   word = get_or s.words i 0
@@ -163,8 +166,7 @@ module _ (n : ℕ) (s : ContextSet) (i : ℕ) (before : NoneBefore n s i) where
   pub first_told : (j : ℕ) → i < 4 → n - 64 * i ≤ j → j < 64 → has word j ≡ true → ((k : ℕ) → n - 64 * i ≤ k → k < j → has word k ≡ false) → FirstAbove n s (Some (64 * i + j + 1))
   first_told j low from few h none =
       let w : (64 * i + j) / 64 ≡ i = omega arith in
-      let z : (64 * i + j) % 64 ≡ j = omega arith in
-      (
+      let z : (64 * i + j) % 64 ≡ j = omega arith in (
         omega arith,
         member_at s (64 * i + j) (omega arith) ∙ ap₂ (λ k b. has (get_or s.words k 0) b) w z ∙ h,
         λ d l m. none_to j none (omega arith) d l (omega arith),
@@ -219,8 +221,7 @@ pub lowest_told_from : (w k : ℕ) → w < 2 ^ 64 → (w / 2 ^ k ≡ 0 → ⊥) 
 lowest_told_from w k f h =
     let t : ℕ = trailing_zeros w64 (w / 2 ^ k) in
     let b = bit_at-trailing_zeros w64 (w / 2 ^ k) (omega arith) (omega (arith, div-le_self w (2 ^ k))) in
-    let held : has w (k + t) ≡ true = sym (shifted w k t) ∙ ap (λ x. eqb x 1) b.1 in
-    (
+    let held : has w (k + t) ≡ true = sym (shifted w k t) ∙ ap (λ x. eqb x 1) b.1 in (
       omega arith,
       has_below w 64 (k + t) f (subst T (sym held) tt),
       held,

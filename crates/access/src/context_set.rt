@@ -93,7 +93,7 @@ impl ContextSet {
         ensures { FirstAbove n self result }
     {
         let n = usize::from(n);
-        for i in 0..4 {
+        for i in n / 64..4 {
             if let Some(j) = lowest_from(self.words[i], n.saturating_sub(64 * i)) {
                 // A bit's context is at most 256.
                 return Some((64 * i + j) as u16 + 1);

@@ -28,6 +28,10 @@ impl Activity for Pull {
     ghost lawful = { pull_laws };
 
     fn link(phase: usize) -> Link {
-        if phase == 0 { Link::Becoming } else { Link::Getting }
+        if phase == 0 {
+            Link::Becoming
+        } else {
+            Link::Getting
+        }
     }
 }

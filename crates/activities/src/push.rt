@@ -28,6 +28,10 @@ impl Activity for Push {
     ghost lawful = { push_laws };
 
     fn link(phase: usize) -> Link {
-        if phase == 0 { Link::Becoming } else { Link::Giving }
+        if phase == 0 {
+            Link::Becoming
+        } else {
+            Link::Giving
+        }
     }
 }

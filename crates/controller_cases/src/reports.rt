@@ -1,11 +1,14 @@
 //! A policy text is read, and what is said of its properties is printed.
 use access::operation::Operation;
 use moves::step::Step;
+use names::names::Names;
 use policy_text::controller::Controller;
+use policy_text::pile::Pile;
 use policy_text::read::read;
 use report::part::REPORT_MEMORY;
 use report::reporting::{next_property, report_property};
 use search::Place;
+use sheet::judging::Judging;
 use std::alloc::{AllocError, Global};
 use std::io;
 
@@ -46,7 +49,8 @@ fn front(memory: &[u8], count: usize) -> &str {
 /// Prints what is said of a property. The working memory suffices for five contexts.
 fn print_part(
     rt: &impl Print,
-    controller: &Controller,
+    judging: &Judging<'_, Pile>,
+    names: &Names,
     number: u16,
     memory: &mut [u8],
 ) -> io::Result<()> {
@@ -54,8 +58,8 @@ fn print_part(
     let mut places = [Place::default(); 10];
     let mut steps = [NO_STEP; 5];
     let told = report_property(
-        &controller.sheet,
-        &controller.names,
+        judging,
+        names,
         number,
         &mut ticks,
         &mut places,
@@ -71,12 +75,13 @@ fn print_part(
 /// Prints what is said of each property that stands, by rising number.
 fn print_report(rt: &impl Print, alloc: Global, controller: &Controller) -> io::Result<()> {
     let mut memory = vec![in alloc; 0u8; REPORT_MEMORY]?;
+    let judging = Judging::of(&controller.sheet);
     let mut last = 0;
     for _ in 0..MOST_PROPERTIES {
-        let Some(number) = next_property(&controller.sheet, last) else {
+        let Some(number) = next_property(&judging, last) else {
             return Ok(());
         };
-        print_part(rt, controller, number, &mut memory)?;
+        print_part(rt, &judging, &controller.names, number, &mut memory)?;
         last = number;
     }
     Ok(())

@@ -36,9 +36,7 @@ fn decide<'a, P: Policy>(
     // A match on a closed list: as values, the four ways would need one signature, and they differ in what they take.
     match property.template {
         Template::Integrity => { by_search::<Push, P>(moves, from, to, ticks, places, steps) }
-        Template::Confidentiality => {
-            by_search::<Pull, P>(moves, from, to, ticks, places, steps)
-        }
+        Template::Confidentiality => { by_search::<Pull, P>(moves, from, to, ticks, places, steps) }
         Template::Domain => {
             let _cleared = Cleared::over(ticks);
             Domain { moves, set: from }.judge(steps)

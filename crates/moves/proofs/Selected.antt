@@ -52,10 +52,6 @@ some_in test n set = same_test _ _ found from
         not_T (eqb (bit_and (of_kinds test) set) 0) (λ e. subst T (has_none r.0)
         (subst (λ x. T (has x r.0)) (eqb→eq _ 0 e) (subst T (sym (masked test n set r.0)) (both (test (kind_of r.0)) _ r.1 r.2))))
 
--- the same of a set that was made
-pub made_in : (test : Kind → Bool) → (T (test Neither) → ⊥) → (among set : ℕ) (r : Bool) → among ≡ of_kinds test → r ≡ not (eqb (bit_and among set) 0) → r ≡ some_op (λ o. test (kind_of o)) set
-made_in test n among set r e h = h ∙ ap (λ x. not (eqb (bit_and x set) 0)) e ∙ some_in test n set
-
 module _ (m : Meaning) (gs : Grants) where
   -- a set holds just what is possible on a pair and passes a test
   record Selects (s t : ℕ) (test : ℕ → Bool) (set : ℕ) : Type 0 where

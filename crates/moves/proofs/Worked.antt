@@ -18,7 +18,7 @@ use Rattle.verdicts.proofs.Moves.{some_op_found}
 use Rattle.moves.specs.Contextual.{value_of, IsSetOf}
 use Rattle.moves.specs.Done.{allowed, IsEmpty, IsNothing, DoneBy, Given}
 use Rattle.moves.specs.declared.by_context.ByContext.{ByContext}
-use Rattle.moves.specs.declared.moves.Doings.{Doings}
+use Rattle.moves.specs.declared.doings.Doings.{Doings}
 use Rattle.moves.proofs.Selected.{of_kinds, some_in, whole}
 
 -- no operation of the empty set passes a test

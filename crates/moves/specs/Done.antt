@@ -8,7 +8,7 @@ use Rattle.verdicts.specs.Activities.{transition, transfer, contact}
 use Rattle.verdicts.specs.Possible.{possible, makeable, some_op}
 use Rattle.moves.specs.Contextual.{IsSetOf, IsTable}
 use Rattle.moves.specs.declared.by_context.ByContext.{ByContext}
-use Rattle.moves.specs.declared.moves.Doings.{Doings}
+use Rattle.moves.specs.declared.doings.Doings.{Doings}
 
 -- the operations that the policy alone, grants left aside, allows on a pair
 abbrev pub allowed : Meaning → ℕ → ℕ → ℕ

@@ -27,12 +27,12 @@ impl<T: Copy> ByContext<T> {
         ByContext { kept, blank }
     }
 
-    pub(crate) fn at(&self, context: u16) -> T
-        ensures { result ≡ value_of self.now context }
+    pub(crate) fn at(&self, context: u16) -> &T
+        ensures { result.now ≡ value_of self.now context }
     {
         match index_in(256, context) {
-            Some(index) => self.kept[index],
-            None => self.blank,
+            Some(index) => &self.kept[index],
+            None => &self.blank,
         }
     }
 }

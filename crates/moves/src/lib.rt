@@ -3,6 +3,7 @@
 #![tactic(auto)]
 
 mod by_context;
+mod doings;
 pub mod grant;
 pub mod movement;
 pub mod moves;

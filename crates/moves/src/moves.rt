@@ -1,114 +1,18 @@
 //! The moves that legal runs make.
-ghost use Rattle.std.specs.Prelude.{◌≡◌, ℕ, Bool, ◌≤◌, not, ◌&&◌, ◌||◌, ◌==◌, bit_and};
+ghost use Rattle.std.specs.Prelude.{◌≡◌, ℕ, ◌≤◌, ◌&&◌, ◌||◌};
 ghost use Rattle.access.specs.Contexts.{inside, member};
 ghost use Rattle.verdicts.specs.Possible.{makeable};
 ghost use Rattle.moves.specs.Regimes.{meaning_of, grants_of};
 ghost use Rattle.moves.specs.Moved.{linked};
 ghost use Rattle.moves.specs.Contextual.{value_of, IsSetOf};
-ghost use Rattle.moves.specs.Done.{reads_alone, IsNothing, DoneBy, Given, Gotten};
+ghost use Rattle.moves.specs.Done.{reads_alone, DoneBy, Given, Gotten};
 
 use crate::by_context::ByContext;
+use crate::doings::{Doings, doings_of, passing};
 use crate::movement::Link;
-use crate::outline::{OnPair, Outlined};
 use crate::regime::Regime;
 use access::context_set::ContextSet;
-use access::operation_set::OperationSet;
 use access::policy::Policy;
-
-/// What a context can do in some legal run: which contexts it can become, write to, read from, and do anything on; and which the
-/// policy alone lets it read.
-#[derive(Clone, Copy)]
-struct Doings {
-    becoming: ContextSet,
-    writing: ContextSet,
-    reading: ContextSet,
-    reading_alone: ContextSet,
-    doing: ContextSet,
-}
-
-/// A set with one context more, if that passed.
-fn with_if(set: ContextSet, context: u16, passed: bool) -> ContextSet
-    ensures { (d : ℕ) → member result d ≡ ((passed && (inside 256 context && d == context)) || member set d) }
-{
-    if passed { set.with(context) } else { set }
-}
-
-/// The contexts from 1 to `contexts` that pass a test.
-fn passing<F: Fn(u16) -> bool>(contexts: u16, test: F) -> ContextSet
-    requires few { contexts ≤ 256 }
-    requires callable { F.IsAlwaysCallable test }
-    ensures { (p : ℕ → Bool) → ((c : ℕ) (b : Bool) → F.post test c b → b ≡ p c) → IsSetOf (λ d. inside contexts d && p d) result }
-{
-    let mut set = ContextSet::none();
-    for index in 0..contexts {
-        set = with_if(set, index + 1, test(index + 1));
-    }
-    set
-}
-
-/// The contexts on which some operation of a set is possible.
-fn possible(contexts: u16, pairs: &ByContext<OnPair>, set: OperationSet) -> ContextSet
-    requires { contexts ≤ 256 }
-    ensures { IsSetOf (λ d. inside contexts d && not (bit_and set.bits (value_of pairs.now d).possible.bits == 0)) result }
-{
-    passing(contexts, |t| !set.and(pairs.at(t).possible).is_empty())
-}
-
-/// The contexts on which the policy alone allows some operation of a set.
-fn allowed(contexts: u16, pairs: &ByContext<OnPair>, set: OperationSet) -> ContextSet
-    requires { contexts ≤ 256 }
-    ensures { IsSetOf (λ d. inside contexts d && not (bit_and set.bits (value_of pairs.now d).allowed.bits == 0)) result }
-{
-    passing(contexts, |t| !set.and(pairs.at(t).allowed).is_empty())
-}
-
-impl<P: Policy> Outlined<'_, P> {
-    /// What a context can do. Each pair is asked once.
-    fn doings(&self, s: u16) -> Doings
-        ensures { DoneBy (meaning_of P.Policy.meaning self.now.regime.now) (grants_of self.now.regime.now) s result }
-    {
-        let n = self.regime.policy.contexts();
-        let nothing = OnPair {
-            allowed: OperationSet::none(),
-            possible: OperationSet::none(),
-        };
-        let pairs = ByContext::of(n, nothing, |t| self.on_pair(s, t));
-        Doings {
-            becoming: possible(n, &pairs, OperationSet::transition()),
-            writing: possible(n, &pairs, OperationSet::write_like()),
-            reading: possible(n, &pairs, OperationSet::read_like()),
-            reading_alone: allowed(n, &pairs, OperationSet::read_like()),
-            doing: possible(n, &pairs, OperationSet::all()),
-        }
-    }
-}
-
-/// What each context can do.
-fn doings_of<P: Policy>(regime: &Regime<'_, P>) -> ByContext<Doings>
-    ensures { (s : ℕ) → DoneBy (meaning_of P.Policy.meaning regime.now) (grants_of regime.now) s (value_of result s) }
-{
-    let outlined = Outlined::new(regime);
-    ByContext::of(
-        regime.policy.contexts(),
-        Doings::nothing(),
-        |s| outlined.doings(s),
-    )
-}
-
-impl Doings {
-    fn nothing() -> Doings
-        ensures { IsNothing result }
-    {
-        let none = ContextSet::none();
-        Doings {
-            becoming: none,
-            writing: none,
-            reading: none,
-            reading_alone: none,
-            doing: none,
-        }
-    }
-}
 
 /// A regime, with the moves that its legal runs make, worked out once from what is possible on each pair.
 #[derive(Drop)]
@@ -172,11 +76,12 @@ impl<'a, P: Policy> Moves<'a, P> {
     {
         match link {
             Link::Becoming => self.doings.at(context).becoming,
-            Link::Giving => self.giving.at(context),
-            Link::Getting => self.getting.at(context),
+            Link::Giving => *self.giving.at(context),
+            Link::Getting => *self.getting.at(context),
             Link::Doing => self.doings.at(context).doing,
         }
     }
+
     /// The contexts that the policy alone, grants left aside, lets a context read.
     pub fn read_alone(&self, context: u16) -> ContextSet
         ensures { IsSetOf (reads_alone (meaning_of P.Policy.meaning self.now.regime) context) result }

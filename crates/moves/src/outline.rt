@@ -89,7 +89,7 @@ impl<'a, P: Policy> Outlined<'a, P> {
     fn at_most(&self, s: u16, t: u16) -> OperationSet
         ensures { both_inside (meaning_of P.Policy.meaning self.now.regime.now).contexts s t ≡ true → Holds result.bits (granted (grants_of self.now.regime.now) s t) }
     {
-        self.to.at(s).and(self.on.at(t))
+        self.to.at(s).and(*self.on.at(t))
     }
 
     /// What `s` can do on `t`. The policy is asked once for what is written, and once for what is permitted.

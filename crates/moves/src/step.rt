@@ -32,7 +32,8 @@ impl<P: Policy> Moves<'_, P> {
         ensures { Origin (meaning_of P.Policy.meaning self.now.regime) (grants_of self.now.regime) (doing s t (number_of operation)) result }
     {
         let policy = self.regime.policy;
-        if policy.written(s, t).and(policy.permitted(s, t)).has(operation) {
+        let own = policy.written(s, t).and(policy.permitted(s, t));
+        if own.has(operation) {
             return 0;
         }
         lowest_giver(self.regime.grants, s, t, operation).unwrap()

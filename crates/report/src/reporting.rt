@@ -12,18 +12,22 @@ use access::refusal::Refusal;
 use moves::step::Step;
 use names::names::Names;
 use search::Place;
-use sheet::sheet::Sheet;
+use sheet::judging::Judging;
 
 /// How many properties a sheet has at most.
 const MOST_PROPERTIES: u16 = 64;
 
 /// Why a property is not reported where report memory is too short.
-fn refusal_without_memory<P: Policy>(sheet: &Sheet<P>, number: u16, ticks: &mut [u8]) -> Refusal
-    ensures answer { (b : Book) (places steps : ℕ) → Stands P.Policy.meaning b sheet.now → reporting_refusal b number (length ticks.old) places steps 0 ≡ Some result }
+fn refusal_without_memory<P: Policy>(
+    judging: &Judging<'_, P>,
+    number: u16,
+    ticks: &mut [u8],
+) -> Refusal
+    ensures answer { (b : Book) (places steps : ℕ) → Stands P.Policy.meaning b judging.now.sheet.now → reporting_refusal b number (length ticks.old) places steps 0 ≡ Some result }
     ensures ticks { ticks.new ≡ replicate (length ticks.old) 0 }
 {
     // Over no places and no steps, which are too few for any policy: so a refusal that comes first is answered.
-    sheet
+    judging
         .judge(number, ticks, &mut [], &mut [])
         .err()
         .unwrap_or(Refusal::ShortMemory)
@@ -33,7 +37,7 @@ fn refusal_without_memory<P: Policy>(sheet: &Sheet<P>, number: u16, ticks: &mut 
 /// and how many steps break it, and then a line for each of these. Says how many bytes that is. What is lent besides is as for
 /// judging.
 pub fn report_property<P: Policy>(
-    sheet: &Sheet<P>,
+    judging: &Judging<'_, P>,
     names: &Names,
     number: u16,
     ticks: &mut [u8],
@@ -41,34 +45,34 @@ pub fn report_property<P: Policy>(
     steps: &mut [Step],
     memory: &mut [u8],
 ) -> Result<usize, Refusal>
-    ensures answer { (b : Book) → Stands P.Policy.meaning b sheet.now → fits b.policy.contexts (b.properties number) ≡ true → Reports b number names.now (length ticks.old) places.old places.new steps.old steps.new memory.old memory.new result }
+    ensures answer { (b : Book) → Stands P.Policy.meaning b judging.now.sheet.now → fits b.policy.contexts (b.properties number) ≡ true → Reports b number names.now (length ticks.old) places.old places.new steps.old steps.new memory.old memory.new result }
     ensures ticks { ticks.new ≡ replicate (length ticks.old) 0 }
 {
     if memory.len() < REPORT_MEMORY {
-        return Err(refusal_without_memory(sheet, number, ticks));
+        return Err(refusal_without_memory(judging, number, ticks));
     }
-    let verdict = sheet.judge(number, ticks, places, steps)?;
+    let verdict = judging.judge(number, ticks, places, steps)?;
     write_part(number, verdict, steps, names, memory)
 }
 
 /// Whether a property stands.
 // A sheet is not asked that, but its refusals tell: only the judging of a property that stands gets as far as the memory.
-fn stands<P: Policy>(sheet: &Sheet<P>, number: u16) -> bool
-    ensures { (b : Book) → Stands P.Policy.meaning b sheet.now → result ≡ (inside 64 number && is_some (b.properties number)) }
+fn stands<P: Policy>(judging: &Judging<'_, P>, number: u16) -> bool
+    ensures { (b : Book) → Stands P.Policy.meaning b judging.now.sheet.now → result ≡ (inside 64 number && is_some (b.properties number)) }
 {
     matches!(
-        refusal_without_memory(sheet, number, &mut []),
+        refusal_without_memory(judging, number, &mut []),
         Refusal::ShortMemory
     )
 }
 
 /// The first property above a number that stands. A whole report has the parts of its properties by rising number: of the one
 /// above 0 and then each time of the one above the last.
-pub fn next_property<P: Policy>(sheet: &Sheet<P>, after: u16) -> Option<u16>
-    ensures { (b : Book) → Stands P.Policy.meaning b sheet.now → MatchOption result (NoneAbove b after) (IsNext b after) }
+pub fn next_property<P: Policy>(judging: &Judging<'_, P>, after: u16) -> Option<u16>
+    ensures { (b : Book) → Stands P.Policy.meaning b judging.now.sheet.now → MatchOption result (NoneAbove b after) (IsNext b after) }
 {
     for number in after.saturating_add(1)..=MOST_PROPERTIES {
-        if stands(sheet, number) {
+        if stands(judging, number) {
             return Some(number);
         }
     }

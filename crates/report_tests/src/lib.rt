@@ -16,6 +16,7 @@ mod tests {
     use record_table::table::RecordTable;
     use report::reporting::{next_property, report_property};
     use search::Place;
+    use sheet::judging::Judging;
     use sheet::sheet::Sheet;
     use std::test::Fail;
 
@@ -121,15 +122,16 @@ mod tests {
             b"40 broken 1\n maint write opening 1\n",
             b"64 broken 2\n keypad append log 0\n maint read log 0\n",
         ];
+        let judging = Judging::of(&sheet);
         let mut ticks = [7; 10];
         let mut places = [Place::default(); 10];
         let mut steps = [STEP; 5];
         let mut memory = vec![in rt.alloc(); 7; 16_384]?;
         let mut after = 0;
         for part in parts {
-            let number = next_property(&sheet, after).ok_or("a property is left out")?;
+            let number = next_property(&judging, after).ok_or("a property is left out")?;
             let told = report_property(
-                &sheet,
+                &judging,
                 &names,
                 number,
                 &mut ticks,
@@ -141,7 +143,7 @@ mod tests {
             assert!(rt; memory.starts_with(part));
             after = number;
         }
-        assert_eq!(rt; next_property(&sheet, after), None);
+        assert_eq!(rt; next_property(&judging, after), None);
         assert_eq!(rt; memory.get(16_383).copied(), Some(7));
         Ok(())
     }
@@ -157,13 +159,14 @@ mod tests {
             (3, Refusal::StandsNot),
             (1, Refusal::ShortMemory),
         ];
+        let judging = Judging::of(&sheet);
         let mut ticks = [7; 10];
         let mut places = [Place::default(); 10];
         let mut steps = [STEP; 5];
         let mut memory = vec![in rt.alloc(); 7; 16_383]?;
         for (number, refusal) in numbers {
             let told = report_property(
-                &sheet,
+                &judging,
                 &names,
                 number,
                 &mut ticks,

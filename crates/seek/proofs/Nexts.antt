@@ -66,10 +66,10 @@ module _ (n : ℕ) (some : 1 ≤ n) where
     pub source_first : (r : Option ℕ) → FirstInPhase n A 0 start r → First (source n (among n A)) start nodes r
     source_first None none =
         λ v low high.
-            ⊎_elim
-            (λ (l : v < n). source_in v l ∙ none v (omega arith) (omega arith))
-            (λ (l : n ≤ v). source_out v l)
-            (cases_lt v n)
+        ⊎_elim
+        (λ (l : v < n). source_in v l ∙ none v (omega arith) (omega arith))
+        (λ (l : n ≤ v). source_out v l)
+        (cases_lt v n)
     source_first (Some v) first =
         record {
           from = omega (arith, first.from);

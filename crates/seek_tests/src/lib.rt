@@ -1,6 +1,10 @@
-//! Seeking on small policies: the detour, the sample controller, ties between giver and taker, and short memory.
+//! Seeking on small policies: the detour, the sample controller, ties between giver and taker, short memory, and how often a policy
+//! is asked.
 
 #![tactic(auto)]
+
+#[cfg(test)]
+mod counting;
 
 #[cfg(test)]
 mod tests {
@@ -13,6 +17,7 @@ mod tests {
     use activities::pull::Pull;
     use activities::push::Push;
     use moves::grant::Grant;
+    use moves::moves::Moves;
     use moves::regime::Regime;
     use moves::step::Step;
     use record_table::table::RecordTable;
@@ -61,10 +66,10 @@ mod tests {
             return Err(Fail::new("the detour is not accepted"));
         };
         let found = seek::<Push, RecordTable>(
-            &Regime {
+            &Moves::of(Regime {
                 policy: &table,
                 grants: &NO_GRANT,
-            },
+            }),
             one(1),
             one(4),
             &mut ticks,
@@ -101,10 +106,10 @@ mod tests {
                 .is_ok()
         );
         let found = seek::<Flow, RecordTable>(
-            &Regime {
+            &Moves::of(Regime {
                 policy: &table,
                 grants: &NO_GRANT,
-            },
+            }),
             one(1),
             one(3),
             &mut ticks,
@@ -132,10 +137,10 @@ mod tests {
         grants[4] = Some(grant);
         grants[30] = Some(grant);
         let found = seek::<Push, RecordTable>(
-            &Regime {
+            &Moves::of(Regime {
                 policy: &table,
                 grants: &grants,
-            },
+            }),
             one(1),
             one(2),
             &mut ticks,
@@ -153,10 +158,10 @@ mod tests {
         let mut steps = [STEP; 2];
         let table = RecordTable::new(2);
         let found = seek::<Pull, RecordTable>(
-            &Regime {
+            &Moves::of(Regime {
                 policy: &table,
                 grants: &NO_GRANT,
-            },
+            }),
             one(1),
             one(2),
             &mut ticks,

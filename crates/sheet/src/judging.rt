@@ -1,5 +1,7 @@
 //! A property that stands is judged.
 ghost use Rattle.std.specs.Prelude.{◌≡◌, length, replicate};
+ghost use Rattle.entries.specs.Entries.{in_order};
+ghost use Rattle.entries.specs.Held.{held};
 ghost use Rattle.sheet.specs.Book.{Book};
 ghost use Rattle.sheet.specs.Stands.{Stands};
 ghost use Rattle.sheet.specs.Judging.{Judges};
@@ -10,11 +12,34 @@ use access::refusal::Refusal;
 use judge::judge::judge;
 use judge::verdict::Verdict;
 use lent::Cleared;
+use moves::moves::Moves;
 use moves::regime::Regime;
 use moves::step::Step;
 use search::Place;
 
-impl<P: Policy> Sheet<P> {
+/// A sheet, with the moves that its legal runs make worked out once, for any number of judgings.
+#[derive(Drop)]
+pub struct Judging<'a, P: Policy> {
+    sheet: &'a Sheet<P>,
+    moves: Moves<'a, P>,
+    ghost policy: { moves.regime.policy.now ≡ sheet.now.policy },
+    ghost grants: { moves.regime.grants.now ≡ in_order (held sheet.now.grants) 0 32 },
+}
+
+impl<'a, P: Policy> Judging<'a, P> {
+    pub fn of(sheet: &'a Sheet<P>) -> Judging<'a, P>
+        ensures { result.sheet.now ≡ sheet.now }
+    {
+        let regime = Regime {
+            policy: &sheet.policy,
+            grants: sheet.grants.all(),
+        };
+        Judging {
+            sheet,
+            moves: Moves::of(regime),
+        }
+    }
+
     /// Judges a property: guaranteed, or broken in so many steps, which then stand in front of `steps` in working order. For n
     /// contexts it takes ticks and places of 2n each, and steps of n. The ticks are handed back all zero in any case.
     // Three slices, as `judge` takes them.
@@ -25,21 +50,31 @@ impl<P: Policy> Sheet<P> {
         places: &mut [Place],
         steps: &mut [Step],
     ) -> Result<Verdict, Refusal>
-        ensures answer { (b : Book) → Stands P.Policy.meaning b self.now → Judges b number ticks.old places.old places.new steps.old steps.new result }
+        ensures answer { (b : Book) → Stands P.Policy.meaning b self.now.sheet.now → Judges b number ticks.old places.old places.new steps.old steps.new result }
         ensures ticks { ticks.new ≡ replicate (length ticks.old) 0 }
     {
-        match self.properties.standing(number) {
-            Ok(property) => {
-                let regime = Regime {
-                    policy: &self.policy,
-                    grants: self.grants.all(),
-                };
-                judge(&regime, property, ticks, places, steps)
-            }
+        match self.sheet.properties.standing(number) {
+            Ok(property) => judge(&self.moves, property, ticks, places, steps),
             Err(why) => {
                 let _cleared = Cleared::over(ticks);
                 Err(why)
             }
         }
+    }
+}
+
+impl<P: Policy> Sheet<P> {
+    /// Judges one property, as `Judging` judges many.
+    pub fn judge(
+        &self,
+        number: u16,
+        ticks: &mut [u8],
+        places: &mut [Place],
+        steps: &mut [Step],
+    ) -> Result<Verdict, Refusal>
+        ensures answer { (b : Book) → Stands P.Policy.meaning b self.now → Judges b number ticks.old places.old places.new steps.old steps.new result }
+        ensures ticks { ticks.new ≡ replicate (length ticks.old) 0 }
+    {
+        Judging::of(self).judge(number, ticks, places, steps)
     }
 }

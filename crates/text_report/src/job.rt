@@ -16,6 +16,7 @@ use policy_text::read::read;
 use report::part::REPORT_MEMORY;
 use report::reporting::{next_property, report_property};
 use search::Place;
+use sheet::judging::Judging;
 use sheet::sheet::Sheet;
 use std::io;
 use std::io::Write;
@@ -25,7 +26,7 @@ const MOST_CONTEXTS: usize = 256;
 
 /// Writes the part of one property that stands.
 fn write_part<P: Policy, W: Write>(
-    sheet: &Sheet<P>,
+    judging: &Judging<'_, P>,
     names: &Names,
     number: u16,
     ticks: &mut [u8],
@@ -34,18 +35,18 @@ fn write_part<P: Policy, W: Write>(
     memory: &mut [u8],
     out: &mut W,
 ) -> io::Result<()>
-    requires sheet { Stands P.Policy.meaning (shown P.Policy.meaning sheet.now) sheet.now × Fit (shown P.Policy.meaning sheet.now) }
+    requires sheet { Stands P.Policy.meaning (shown P.Policy.meaning judging.now.sheet.now) judging.now.sheet.now × Fit (shown P.Policy.meaning judging.now.sheet.now) }
     requires lent { Lent (length ticks.old) (length places.old) (length steps.old) (length memory.old) }
-    requires property { (inside 64 number ≡ true) × (is_some ((shown P.Policy.meaning sheet.now).properties number) ≡ true) }
-    ensures { OnOk result ((bytes : List ℕ) × Appends (W.contents out.old) (W.contents out.new) bytes × IsPart (shown P.Policy.meaning sheet.now) names.now number bytes) }
+    requires property { (inside 64 number ≡ true) × (is_some ((shown P.Policy.meaning judging.now.sheet.now).properties number) ≡ true) }
+    ensures { OnOk result ((bytes : List ℕ) × Appends (W.contents out.old) (W.contents out.new) bytes × IsPart (shown P.Policy.meaning judging.now.sheet.now) names.now number bytes) }
 {
-    let len = report_property(sheet, names, number, ticks, places, steps, memory).unwrap();
+    let len = report_property(judging, names, number, ticks, places, steps, memory).unwrap();
     out.write_all(&memory[..len])
 }
 
 /// Writes the parts of the properties that stand, by rising number.
 fn write_parts<P: Policy, W: Write>(
-    sheet: &Sheet<P>,
+    judging: &Judging<'_, P>,
     names: &Names,
     ticks: &mut [u8],
     places: &mut [Place],
@@ -53,13 +54,13 @@ fn write_parts<P: Policy, W: Write>(
     memory: &mut [u8],
     out: &mut W,
 ) -> io::Result<()>
-    requires sheet { Stands P.Policy.meaning (shown P.Policy.meaning sheet.now) sheet.now × Fit (shown P.Policy.meaning sheet.now) }
+    requires sheet { Stands P.Policy.meaning (shown P.Policy.meaning judging.now.sheet.now) judging.now.sheet.now × Fit (shown P.Policy.meaning judging.now.sheet.now) }
     requires lent { Lent (length ticks.old) (length places.old) (length steps.old) (length memory.old) }
-    ensures { OnOk result (Written (shown P.Policy.meaning sheet.now) names.now (W.contents out.old) (W.contents out.new)) }
+    ensures { OnOk result (Written (shown P.Policy.meaning judging.now.sheet.now) names.now (W.contents out.old) (W.contents out.new)) }
 {
     let mut after = 0;
-    while let Some(number) = next_property(sheet, after) {
-        write_part(sheet, names, number, ticks, places, steps, memory, out)?;
+    while let Some(number) = next_property(judging, after) {
+        write_part(judging, names, number, ticks, places, steps, memory, out)?;
         after = number;
     }
     Ok(())
@@ -81,7 +82,7 @@ fn write_report<P: Policy, W: Write>(sheet: &Sheet<P>, names: &Names, out: &mut 
     let mut steps = [unwritten; MOST_CONTEXTS];
     let mut memory = [0; REPORT_MEMORY];
     write_parts(
-        sheet,
+        &Judging::of(sheet),
         names,
         &mut ticks,
         &mut places,

@@ -18,6 +18,7 @@ use layers::labels::Labels;
 use layers::level::LevelLayer;
 use layers::owner::OwnerLayer;
 use moves::grant::Grant;
+use moves::moves::Moves;
 use moves::regime::Regime;
 use moves::step::Step;
 use record_table::table::RecordTable;
@@ -141,7 +142,7 @@ fn print_found(
 /// Seeks a shortest activity of a kind from the keypad to the opening, and prints it.
 fn ask<A: Activity, P: Policy>(
     rt: &impl Print,
-    regime: &Regime<'_, P>,
+    moves: &Moves<'_, P>,
     question: &str,
 ) -> io::Result<()> {
     println!(rt; "  {question}")?;
@@ -150,13 +151,14 @@ fn ask<A: Activity, P: Policy>(
     let mut steps = [NO_STEP; 5];
     let keypad = ContextSet::none().with(KEYPAD);
     let opening = ContextSet::none().with(OPENING);
-    let found = seek::<A, P>(regime, keypad, opening, &mut ticks, &mut places, &mut steps);
+    let found = seek::<A, P>(moves, keypad, opening, &mut ticks, &mut places, &mut steps);
     print_found(rt, found, &steps)
 }
 
-fn ask_both<P: Policy>(rt: &impl Print, regime: &Regime<'_, P>) -> io::Result<()> {
-    ask::<Push, P>(rt, regime, "can the keypad get something to the opening?")?;
-    ask::<Pull, P>(rt, regime, "can the keypad get something from the opening?")
+fn ask_both<P: Policy>(rt: &impl Print, regime: Regime<'_, P>) -> io::Result<()> {
+    let moves = Moves::of(regime);
+    ask::<Push, P>(rt, &moves, "can the keypad get something to the opening?")?;
+    ask::<Pull, P>(rt, &moves, "can the keypad get something from the opening?")
 }
 
 /// Lays out the sample controller, or prints why it cannot be.
@@ -185,7 +187,7 @@ fn tour(rt: &impl Print, alloc: Global) -> io::Result<()> {
                 policy: &controller,
                 grants: &none,
             };
-            ask_both(rt, &regime)?;
+            ask_both(rt, regime)?;
             println!(rt; "With grant 1, by which maint may be given write on opening:")?;
             let mut grants = none;
             grants[0] = Some(Grant {
@@ -197,7 +199,7 @@ fn tour(rt: &impl Print, alloc: Global) -> io::Result<()> {
                 policy: &controller,
                 grants: &grants,
             };
-            ask_both(rt, &regime)?;
+            ask_both(rt, regime)?;
             println!(rt; "Requests to a sheet over it:")?;
             requests::show(rt, alloc, controller)
         }

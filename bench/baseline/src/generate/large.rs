@@ -12,8 +12,9 @@ const OWNERS: usize = 16;
 /// A text of n contexts (at least 16), 4n pairs, 32 grants and up to 64 properties of a template.
 ///
 /// The last context, the vault, takes part in no move, and nothing gets from an owner to another but by `send`, `receive` and
-/// `become`. So the grants, which give the other operations between owners, must all be looked at and give no move.
-pub fn text(template: &str, n: usize, properties: usize) -> String {
+/// `become`. So the grants, which give the other operations between owners, must all be looked at and give no move. In a crowded
+/// text the last four give these three among all contexts but the vault.
+pub fn text(template: &str, n: usize, properties: usize, crowded: bool) -> String {
     let names = short_names(n);
     let large = Large { names: &names, n };
     let mut text: String = (0..n).map(|c| format!("context {} 0 {}\n", names[c], c % OWNERS)).collect();
@@ -22,7 +23,9 @@ pub fn text(template: &str, n: usize, properties: usize) -> String {
     let crowd = large.crowd(&pairs);
     pairs.extend(crowd);
     text.extend(pairs.iter().map(|&(s, t, operation)| format!("vector {} {} {operation}\n", names[s], names[t])));
-    text.extend((1..=GRANTS).map(|number| large.grant(number)));
+    let free = if crowded { large.free_grants() } else { Vec::new() };
+    text.extend((1..=GRANTS - free.len()).map(|number| large.grant(number)));
+    text.extend(free);
     text.extend((1..=properties).map(|number| large.property(template, number)));
     text
 }
@@ -71,6 +74,15 @@ impl Large<'_> {
         let high = self.set((0..self.n).filter(chosen).filter(|c| c % OWNERS >= OWNERS / 2));
         let (subjects, targets) = if number.is_multiple_of(2) { (low, high) } else { (high, low) };
         format!("grant {number} {subjects} {targets} read write append\n")
+    }
+
+    /// The last grants of a crowded text: of four, since a line has at most 1,024 bytes.
+    fn free_grants(&self) -> Vec<String> {
+        let half = self.n / 2;
+        let halves = [self.set(0..half), self.set(half..self.n - 1)];
+        let pairs = halves.iter().flat_map(|from| halves.iter().map(move |to| (from, to)));
+        let numbers = GRANTS - halves.len() * halves.len() + 1..;
+        numbers.zip(pairs).map(|(number, (from, to))| format!("grant {number} {from} {to} send receive become\n")).collect()
     }
 
     /// One in two is guaranteed, since nothing gets to the vault or from it; the others are broken, mostly by a long chain.

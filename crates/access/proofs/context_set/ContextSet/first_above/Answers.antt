@@ -1,6 +1,9 @@
 use Rattle.std.proofs.Common.{◌-◌, ◌*◌, ◌∙◌, ap, subst, arith}
-use Rattle.access.proofs.ContextLaws.{NoneBefore, none_through, first_told, none_at_all}
+use Rattle.access.proofs.ContextLaws.{NoneBefore, none_to_start, none_through, first_told, none_at_all}
 use Rattle.access.proofs.context_set.ContextSet.first_above.Goals as goal
+
+pub loop-i-init : goal.loop-i-init
+loop-i-init c = none_to_start c.from-n.result c.args.self
 
 pub returns-in-Some : goal.returns-in-Some
 returns-in-Some c =

@@ -32,8 +32,7 @@ loop-phase-preserved g c =
     let r = c.args.self.now.moves.now.regime in
     let m = g.P.Policy.meaning r.policy.now in
     let q = c.loop-phase.phase in
-    let reaches = (λ (d : ℕ). c.from-reached.ensures d ∙ ap (makeable m (grants_of r)) (ap (λ x. linked c.link.result x d) c.context_of-context.ensures ∙ c.link.ensures (context m.contexts c.args.from) d)) in
-    (
+    let reaches = (λ (d : ℕ). c.from-reached.ensures d ∙ ap (makeable m (grants_of r)) (ap (λ x. linked c.link.result x d) c.context_of-context.ensures ∙ c.link.ensures (context m.contexts c.args.from) d)) in (
       omega (arith, c.loop-phase.invariant.0),
       none_here g.A.Activity.kind m (grants_of r) (g.met.P.Policy.sound r.policy.now).a_context c.args.from c.args.start q c.loop-phase.invariant.0 c.loop-phase.invariant.1 (member c.from-reached.result) reaches
           (subst (FirstInPhase m.contexts (member c.from-reached.result) q c.args.start) c.in_default.is c.first_at.ensures),
