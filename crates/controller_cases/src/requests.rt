@@ -112,7 +112,7 @@ fn print_answer(rt: &impl Print, answer: &Answer) -> io::Result<()> {
         Answer::Accepted => println!(rt; " accepted"),
         Answer::Refused(why) => println!(rt; " refused, number {}: {why}", u8::from(*why)),
         Answer::Guaranteed => println!(rt; " guaranteed"),
-        Answer::Broken { steps } => println!(rt; " broken, in {} steps", steps.len()),
+        Answer::Broken { count, .. } => println!(rt; " broken, in {count} steps"),
         Answer::Number(number) => println!(rt; " {number}"),
         Answer::Operations(set) => print_operations(rt, *set),
     }
@@ -138,10 +138,9 @@ pub(crate) fn show(
     for (_, request) in named {
         requests.push(*request)?;
     }
-    let outcome = replay(alloc, controller(), &requests);
-    let served = outcome.served;
-    let printed = print_named(rt, named, outcome.answers.get(unnamed..).unwrap_or(&[]));
-    let _ = outcome.close();
-    printed?;
-    Ok(served?)
+    let mut answers = vec![in alloc; Answer::Accepted; requests.len()]?;
+    let session = replay(controller(), &requests, &mut answers);
+    let printed = print_named(rt, named, answers.get(unnamed..).unwrap_or(&[]));
+    let _ = session.close();
+    printed
 }

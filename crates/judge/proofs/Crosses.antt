@@ -1,9 +1,9 @@
 -- Domains: a step across the edge, or none.
-use Rattle.std.proofs.Common.{ℕ, ◌≤◌, Bool, ◌&&◌, T, List, [], ◌∷◌, length, set, Some, None, Option, MatchOption, IsSome, sym, refl, ◌∙◌, subst, subst₂, ⊎_elim, arith}
+use Rattle.std.proofs.Common.{◌≡◌, ℕ, ◌≤◌, Bool, false, ◌&&◌, T, List, [], ◌∷◌, length, set, Some, None, Option, MatchOption, IsSome, sym, refl, ◌∙◌, subst, subst₂, ⊎_elim, arith}
 use lib.Bits.{bit_and, bit_or}
 use Rattle.std.proofs.lemmas.Bool.{cases_Bool}
 use Rattle.access.specs.Operations.{has}
-use Rattle.access.specs.Contexts.{both_inside, FirstAbove}
+use Rattle.access.specs.Contexts.{both_inside, member, FirstAbove}
 use Rattle.access.specs.declared.context_set.ContextSet.{ContextSet}
 use Rattle.access.proofs.Tests.{both, both_parts}
 use Rattle.access.specs.Policy.{Meaning, Interaction}
@@ -23,6 +23,7 @@ use Rattle.moves.specs.Moved.{stepped, ShownAs}
 use Rattle.moves.specs.Contextual.{IsSetOf}
 use Rattle.moves.proofs.Selected.{makeable_shown}
 use Rattle.activities.specs.Found.{NoneRealised}
+use Rattle.judge.specs.Chosen.{FirstContact}
 use Rattle.judge.specs.Crossings.{Across, NoneAcross, AcrossFrom}
 use Rattle.judge.specs.Judged.{Tells}
 use Rattle.judge.specs.declared.verdict.Verdict.TheVariants.{Broken}
@@ -48,27 +49,34 @@ module _ (m : Meaning) (gs : Grants) (l : Sound m) (A : ℕ → Bool) where
       let e = subst₂ (λ x y. (1 ≤ x) × (x ≤ m.contexts) × (1 ≤ y) × (y ≤ m.contexts)) r.makes.by r.makes.on (can_inside i r.can) in
       never s e.0 e.1 t e.2 e.3 a i r.makes ((reduction m gs (i ∷ [])).1 (r.can, tt)))
 
+  pub contact_first : (ss : List Step) (r : Step) → m.contexts ≤ length ss → Across m gs A r → FirstContact m gs A (set ss 0 r) 1
+  contact_first [] r f h = absurd (omega (arith, l.a_context))
+  contact_first (x ∷ xs) r f h = record { one = refl; fits = omega arith; across = h }
+
   pub contact_some : (ss : List Step) (r : Step) → m.contexts ≤ length ss → Across m gs A r → Tells m gs (Forbids m (domain A)) ss (set ss 0 r) (Broken 1)
   contact_some [] r f h = absurd (omega (arith, l.a_context))
   contact_some (x ∷ xs) r f h =
-      let forbidden : Forbids m (domain A) (contact h.subject h.target ∷ []) = record { subject = h.subject; target = h.target; across = h.across; only = refl } in
-      let b = broken_by m gs {p = domain A} {vs = contact h.subject h.target ∷ []} {ss = stepped r ∷ []} forbidden (also h.shown none) (domain_shortest m gs A) in (
-        record { moves = contact h.subject h.target ∷ []; sought = forbidden; count = refl; shown = also h.shown none; legal = b.legal; shortest = domain_shortest m gs A; few = l.a_context },
+      let forbidden : Forbids m (domain A) (contact h.subject h.on.target ∷ []) = record { subject = h.subject; target = h.on.target; across = h.on.across; only = refl } in
+      let b = broken_by m gs {p = domain A} {vs = contact h.subject h.on.target ∷ []} {ss = stepped r ∷ []} forbidden (also h.on.shown none) (domain_shortest m gs A) in (
+        record { moves = contact h.subject h.on.target ∷ []; sought = forbidden; count = refl; shown = also h.on.shown none; legal = b.legal; shortest = domain_shortest m gs A; few = l.a_context },
         refl,
       )
 
   -- the first context on which s can do something across the edge
   module _ (s : ℕ) (set : ContextSet) (is : IsSetOf (λ t. makeable m gs (contact s t) && apart A s t) set) where
+    none_on : (t : ℕ) → member set t ≡ false → NoneAcross m gs A s t
+    none_on t e a i w p = subst T (sym (is t) ∙ e) (both (makeable m gs (contact s t)) (apart A s t) (done_makeable m gs (contact s t) i w ((reduction m gs (i ∷ [])).0 p).0) a)
+
     pub crossing_none : FirstAbove 0 set None → AcrossFrom m gs A s m.contexts None
-    crossing_none never t low high a i w p =
-        let e = never t low in
-        subst T (sym (is t) ∙ e) (both (makeable m gs (contact s t)) (apart A s t) (done_makeable m gs (contact s t) i w ((reduction m gs (i ∷ [])).0 p).0) a)
+    crossing_none never t low high = none_on t (never t low)
 
     pub crossing_some : (t : ℕ) → FirstAbove 0 set (Some t) → (r : Option Step) → ShownAs m gs (contact s t) r → AcrossFrom m gs A s m.contexts r
     crossing_some t first r shown =
         let h = both_parts (makeable m gs (contact s t)) (apart A s t) (subst T (sym (sym (is t) ∙ first.1)) tt) in
-        go r shown (makeable_shown m gs (contact s t) h.0 r shown) h.1
+        let d = makeable_done m gs (contact s t) h.0 in
+        let e = can_inside d.interaction d.can in
+        go r shown (makeable_shown m gs (contact s t) h.0 r shown) h.1 (subst (λ y. y ≤ m.contexts) d.makes.on e.3)
       where
-        go : (r : Option Step) → ShownAs m gs (contact s t) r → IsSome r → T (apart A s t) → AcrossFrom m gs A s m.contexts r
-        go None shown some a = absurd (subst T (sym some) tt)
-        go (Some step) shown some a = record { subject = s; target = t; across = a; shown = shown }
+        go : (r : Option Step) → ShownAs m gs (contact s t) r → IsSome r → T (apart A s t) → t ≤ m.contexts → AcrossFrom m gs A s m.contexts r
+        go None shown some a high = absurd (subst T (sym some) tt)
+        go (Some step) shown some a high = record { target = t; low = first.0; high = high; across = a; shown = shown; sooner = λ u low below. none_on u (first.2 u low below) }

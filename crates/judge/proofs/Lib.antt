@@ -2,3 +2,4 @@ mod Verdicts
 mod Crosses
 mod Sets
 mod Sources
+pub mod Chosen

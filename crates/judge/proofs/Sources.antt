@@ -1,8 +1,8 @@
 -- Consistency, source by source: the nearest source gives the verdict.
-use Rattle.std.proofs.Common.{◌≡◌, ℕ, ◌+◌, ◌-◌, ◌≤◌, Bool, true, false, ◌&&◌, ◌||◌, T, eqb, ltb, leb, List, drop, Some, None, Option, sym, subst, subst₂, ⊎_elim, arith, leb→le, T_not}
+use Rattle.std.proofs.Common.{◌≡◌, ℕ, suc, ◌+◌, ◌-◌, ◌*◌, Ok, Result, ap, ap₂, ◌∙◌, ◌≤◌, Bool, true, false, ◌&&◌, ◌||◌, T, eqb, ltb, leb, List, drop, Some, None, Option, sym, subst, subst₂, ⊎_elim, arith, leb→le, T_not}
 use mathlib.Core.Path.{fun_ext}
 use lib.Dec.{not_T}
-use Rattle.std.proofs.lemmas.Bool.{cases_eq, cases_Bool, ltb-true, ltb-false, cond-true, cond-false}
+use Rattle.std.proofs.lemmas.Bool.{cases_eq, cases_Bool, ne_eqb, and_right, ltb-true, ltb-false, cond-true, cond-false}
 use Rattle.access.specs.Contexts.{inside, member, empty}
 use Rattle.access.specs.declared.context_set.ContextSet.{ContextSet}
 use Rattle.access.specs.Policy.{Meaning}
@@ -15,7 +15,14 @@ use Rattle.verdicts.proofs.Decided.{direct_from, direct_found}
 use Rattle.moves.specs.declared.step.Step.{Step}
 use Rattle.activities.specs.Found.{Leads, NoneRealised, AtLeast, Found, Shortest, Measured, Searched}
 use Rattle.activities.proofs.Properties.{sources_none, source_found}
-use Rattle.seek.specs.Plan.{among}
+use Rattle.access.specs.declared.refusal.Refusal.{Refusal}
+use Rattle.access.proofs.ContextLaws.{inside_from}
+use Rattle.verdicts.specs.Searches.{flowing}
+use Rattle.search.specs.Problem.{Problem}
+use Rattle.activities.specs.Nodes.{edge, source, target}
+use Rattle.seek.specs.Plan.{among, plan}
+use Rattle.seek.specs.Settled.{SettledIn, ShowsFirst}
+use Rattle.judge.specs.Chosen.{ShownFrom}
 use Rattle.moves.specs.Done.{reads_alone}
 use Rattle.judge.specs.Flows.{is_unread, From, Nearest, Best, nearer_of}
 use Rattle.judge.specs.Judged.{Tells}
@@ -34,6 +41,26 @@ module _ (m : Meaning) (gs : Grants) (l : Sound m) (B : ℕ → Bool) (a : ℕ) 
     pub measured_from : (r : Option ℕ) → Measured m gs (Leads Flow (among m.contexts (member one)) (member rest)) r → Measured m gs (From m B a) r
     measured_from r = subst₂ (λ X Y. Measured m gs (Leads Flow X Y) r) (one_is m.contexts a none one low high l.few_contexts is_none is_one) (fun_ext is_rest)
 
+    -- the graph that is searched is the one from the source to what it may not read
+    among_one : (c : ℕ) → among m.contexts (λ x. eqb x a) c ≡ eqb c a
+    among_one c =
+        ⊎_elim
+        (λ (z : c ≡ a). ap (λ b. b && eqb c a) (inside_from m.contexts c (omega arith) (omega arith)))
+        (λ (z : c ≡ a → ⊥). and_right (inside m.contexts c) (eqb c a) (ne_eqb c a z) ∙ sym (ne_eqb c a z))
+        (cases_eq c a)
+
+    same_plan : plan flowing m gs (member one) (member rest) ≡ plan flowing m gs (λ c. eqb c a) (is_unread m B a)
+    same_plan =
+        ap₂ (λ (X Y : ℕ → Bool). let q : Problem = record { nodes = 1 * m.contexts; edge = edge flowing m gs; source = source m.contexts X; target = target m.contexts Y } in q)
+        (one_is m.contexts a none one low high l.few_contexts is_none is_one ∙ sym (fun_ext among_one)) (fun_ext is_rest)
+
+    pub shown_from : (ss : List Step) (found : Option ℕ) {r : Result (Option ℕ) Refusal} → r ≡ Ok found → ShowsFirst flowing m gs true (member one) (member rest) ss r → ShownFrom m gs B a ss found
+    shown_from ss found e h = go found (subst (ShowsFirst flowing m gs true (member one) (member rest) ss) e h)
+      where
+        go : (found : Option ℕ) → ShowsFirst flowing m gs true (member one) (member rest) ss (Ok found) → ShownFrom m gs B a ss found
+        go None h = tt
+        go (Some k) h = subst (λ p. SettledIn p flowing m gs true ss k) same_plan h
+
     pub searched_from : (ss ss' : List Step) (r : Option ℕ) → Searched m gs (Leads Flow (among m.contexts (member one)) (member rest)) ss ss' r → Searched m gs (From m B a) ss ss' r
     searched_from ss ss' r = subst₂ (λ X Y. Searched m gs (Leads Flow X Y) ss ss' r) (one_is m.contexts a none one low high l.few_contexts is_none is_one) (fun_ext is_rest)
 
@@ -49,10 +76,18 @@ module _ (m : Meaning) (gs : Grants) (A B : ℕ → Bool) (top : ℕ) where
       (cases_eq a (top + 1))
 
   kept : (q : Near) → Nearest m gs A B top q → (T (A (top + 1)) → AtLeast m gs (From m B (top + 1)) q.steps) → Nearest m gs A B (top + 1) q
-  kept q h next = record { first = h.first; last = omega (arith, h.last); member = h.member; found = h.found; least = further (λ a. AtLeast m gs (From m B a) q.steps) h.least next }
+  kept q h next = record { first = h.first; last = omega (arith, h.last); member = h.member; found = h.found; least = further (λ a. AtLeast m gs (From m B a) q.steps) h.least next; farther = h.farther }
 
-  taken : (k : ℕ) → T (A (top + 1)) → Shortest m gs (From m B (top + 1)) k → ((a : ℕ) → 1 ≤ a → a ≤ top → T (A a) → AtLeast m gs (From m B a) k) → Nearest m gs A B (top + 1) (record { source = top + 1; steps = k })
-  taken k t s h = record { first = omega arith; last = omega arith; member = t; found = s; least = further (λ a. AtLeast m gs (From m B a) k) h (λ _. s.shortest) }
+  taken : (k : ℕ) → T (A (top + 1)) → Shortest m gs (From m B (top + 1)) k → ((a : ℕ) → 1 ≤ a → a ≤ top → T (A a) → AtLeast m gs (From m B a) (suc k)) → Nearest m gs A B (top + 1) (record { source = top + 1; steps = k })
+  taken k t s h =
+      record {
+        first = omega arith;
+        last = omega arith;
+        member = t;
+        found = s;
+        least = further (λ a. AtLeast m gs (From m B a) k) (λ a b c d ms f r. omega (arith, h a b c d ms f r)) (λ _. s.shortest);
+        farther = λ a b c d. h a b (omega arith) d;
+      }
 
   pub best_skip : (best : Option Near) → false ≡ A (top + 1) → Best m gs A B top best → Best m gs A B (top + 1) best
   best_skip None e h = further (λ a. NoneRealised m gs (From m B a)) h (λ t. absurd (subst T (sym e) t))

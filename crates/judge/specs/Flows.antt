@@ -1,5 +1,5 @@
 -- The nearest source of a flow that a consistency property forbids.
-use Rattle.std.specs.Prelude.{ℕ, ◌≤◌, Bool, cond, not, ◌&&◌, T, List, Some, None, Option, MatchOption, nat_eq, nat_lt}
+use Rattle.std.specs.Prelude.{ℕ, suc, ◌<◌, ◌≤◌, Bool, cond, not, ◌&&◌, T, List, Some, None, Option, MatchOption, nat_eq, nat_lt}
 use Rattle.access.specs.Policy.{Meaning}
 use Rattle.verdicts.specs.Runs.{Grants}
 use Rattle.verdicts.specs.Activities.{Move, Flow}
@@ -15,13 +15,14 @@ is_unread m B a b = B b && not (reads_alone m a b)
 abbrev pub From : Meaning → (ℕ → Bool) → ℕ → List Move → Type 0
 From m B a = Leads Flow (λ c. nat_eq c a) (is_unread m B a)
 
--- of the sources up to `top`, the nearest
+-- of the sources up to `top`, the nearest, and the first of those that are as near
 pub record Nearest (m : Meaning) (gs : Grants) (A B : ℕ → Bool) (top : ℕ) (q : Near) : Type 0 where
   pub first : 1 ≤ q.source
   pub last : q.source ≤ top
   pub member : T (A q.source)
   pub found : Shortest m gs (From m B q.source) q.steps
   pub least : (a : ℕ) → 1 ≤ a → a ≤ top → T (A a) → AtLeast m gs (From m B a) q.steps
+  pub farther : (a : ℕ) → 1 ≤ a → a < q.source → T (A a) → AtLeast m gs (From m B a) (suc q.steps)
 
 -- the nearest source, if a flow leads from one
 abbrev pub Best : Meaning → Grants → (ℕ → Bool) → (ℕ → Bool) → ℕ → Option Near → Type 0

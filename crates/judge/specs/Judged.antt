@@ -15,6 +15,7 @@ use Rattle.seek.specs.Sought.{Suffices}
 use Rattle.properties.specs.declared.property.Property.{Property}
 use Rattle.properties.specs.declared.property.Template.{Template}
 use Rattle.properties.specs.declared.property.Template.TheVariants.{Integrity, Confidentiality, Domain, Consistency}
+use Rattle.judge.specs.Chosen.{Chosen}
 use Rattle.judge.specs.declared.verdict.Verdict.{Verdict}
 use Rattle.judge.specs.declared.verdict.Verdict.TheVariants.{Guaranteed, Broken}
 
@@ -29,10 +30,10 @@ forbidding Consistency A B = consistency A B
 abbrev pub property_of : Property → Forbidding
 property_of q = forbidding q.template (member q.first) (member q.second)
 
--- what a verdict says of a property, with the lent steps before and after
+-- what a verdict says of a property, with the lent steps before and after; of activities that are as short the steps show the first
 abbrev pub Judged : Meaning → Grants → Forbidding → List Step → List Step → Verdict → Type 0
 Judged m gs p ss ss' Guaranteed = Holds m gs p × (ss' ≡ ss)
-Judged m gs p ss ss' (Broken k) = Breaks m gs p (first_steps k ss') × (drop k ss' ≡ drop k ss) × (k ≤ m.contexts)
+Judged m gs p ss ss' (Broken k) = Breaks m gs p (first_steps k ss') × (drop k ss' ≡ drop k ss) × (k ≤ m.contexts) × Chosen m gs p ss' k
 
 -- refused with 12 exactly where the memory does not suffice, the places and the steps as before; else, where the sets of the
 -- property are of contexts, the verdict, which is `Guaranteed` exactly where the property is

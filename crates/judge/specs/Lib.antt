@@ -1,3 +1,4 @@
 pub mod Judged
 pub mod Crossings
 pub mod Flows
+pub mod Chosen

@@ -1,11 +1,12 @@
 //! Domains: a look at each context.
-ghost use Rattle.std.specs.Prelude.{◌≡◌, ℕ, ◌≤◌, ◌&&◌, length, MatchOption, Some, None};
+ghost use Rattle.std.specs.Prelude.{◌≡◌, ℕ, ◌<◌, ◌≤◌, ◌&&◌, length, MatchOption, Some, None};
 ghost use Rattle.access.specs.Contexts.{member};
 ghost use Rattle.verdicts.specs.Activities.{contact, domain, apart, Forbids};
 ghost use Rattle.verdicts.specs.Possible.{makeable};
 ghost use Rattle.moves.specs.Regimes.{meaning_of, grants_of};
 ghost use Rattle.moves.specs.Contextual.{IsSetOf};
 ghost use Rattle.judge.specs.Judged.{Tells};
+ghost use Rattle.judge.specs.Chosen.{FirstContact, WithSteps};
 ghost use Rattle.judge.specs.Crossings.{AcrossFrom, AcrossAll};
 
 use crate::verdict::Verdict;
@@ -25,7 +26,7 @@ pub(crate) struct Domain<'a, P: Policy> {
 /// The first answer that is a step, of those at the contexts 1 to n.
 fn first_step<F: Fn(u16) -> Option<Step>>(contexts: u16, look: F) -> Option<Step>
     requires { F.IsAlwaysCallable look }
-    ensures { MatchOption result ((c : ℕ) → 1 ≤ c → c ≤ contexts → F.post look c None) (λ step. (c : ℕ) × F.post look c (Some step)) }
+    ensures { MatchOption result ((c : ℕ) → 1 ≤ c → c ≤ contexts → F.post look c None) (λ step. (c : ℕ) × (1 ≤ c) × F.post look c (Some step) × ((d : ℕ) → 1 ≤ d → d < c → F.post look d None)) }
 {
     // No plainer by `find_map` on the range: its contract speaks of a run of the iterator, and what it passed over would need a
     // longer answer than this loop, which needs none.
@@ -68,7 +69,8 @@ impl<P: Policy> Domain<'_, P> {
     /// Judges a domain.
     pub(crate) fn judge(&self, steps: &mut [Step]) -> Verdict
         requires { (meaning_of P.Policy.meaning self.now.moves.now.regime).contexts ≤ length steps.old }
-        ensures { Tells (meaning_of P.Policy.meaning self.now.moves.now.regime) (grants_of self.now.moves.now.regime) (Forbids (meaning_of P.Policy.meaning self.now.moves.now.regime) (domain (member self.now.set))) steps.old steps.new result }
+        ensures told { Tells (meaning_of P.Policy.meaning self.now.moves.now.regime) (grants_of self.now.moves.now.regime) (Forbids (meaning_of P.Policy.meaning self.now.moves.now.regime) (domain (member self.now.set))) steps.old steps.new result }
+        ensures first { WithSteps (FirstContact (meaning_of P.Policy.meaning self.now.moves.now.regime) (grants_of self.now.moves.now.regime) (member self.now.set) steps.new) result }
     {
         match self.crossing() {
             Some(step) => {

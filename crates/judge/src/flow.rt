@@ -8,6 +8,7 @@ ghost use Rattle.moves.specs.Contextual.{IsSetOf};
 ghost use Rattle.activities.specs.Found.{Measured, Searched};
 ghost use Rattle.seek.specs.Sought.{SearchRoom, Suffices};
 ghost use Rattle.judge.specs.Judged.{Tells};
+ghost use Rattle.judge.specs.Chosen.{ShownFrom, FirstFlow, WithSteps};
 ghost use Rattle.judge.specs.Flows.{is_unread, From, Best, nearer_of};
 
 use crate::verdict::Verdict;
@@ -117,6 +118,7 @@ impl<P: Policy> Flows<'_, P> {
         requires last { a ≤ (meaning_of P.Policy.meaning self.now.moves.now.regime).contexts }
         requires fits { Suffices 2 (meaning_of P.Policy.meaning self.now.moves.now.regime).contexts ticks.old places.old steps.old }
         ensures shown { Searched (meaning_of P.Policy.meaning self.now.moves.now.regime) (grants_of self.now.moves.now.regime) (From (meaning_of P.Policy.meaning self.now.moves.now.regime) (member self.now.to) a) steps.old steps.new result }
+        ensures first { ShownFrom (meaning_of P.Policy.meaning self.now.moves.now.regime) (grants_of self.now.moves.now.regime) (member self.now.to) a steps.new result }
         ensures ticks { ticks.new ≡ replicate (length ticks.old) 0 }
     {
         let one = ContextSet::none().with(a);
@@ -132,6 +134,7 @@ impl<P: Policy> Flows<'_, P> {
     ) -> Verdict
         requires { Suffices 2 (meaning_of P.Policy.meaning self.now.moves.now.regime).contexts ticks.old places.old steps.old }
         ensures told { AllInside (meaning_of P.Policy.meaning self.now.moves.now.regime).contexts (member self.now.from) → AllInside (meaning_of P.Policy.meaning self.now.moves.now.regime).contexts (member self.now.to) → Tells (meaning_of P.Policy.meaning self.now.moves.now.regime) (grants_of self.now.moves.now.regime) (Forbids (meaning_of P.Policy.meaning self.now.moves.now.regime) (consistency (member self.now.from) (member self.now.to))) steps.old steps.new result }
+        ensures first { WithSteps (FirstFlow (meaning_of P.Policy.meaning self.now.moves.now.regime) (grants_of self.now.moves.now.regime) (member self.now.from) (member self.now.to) steps.new) result }
         ensures ticks { ticks.new ≡ replicate (length ticks.old) 0 }
     {
         match self.nearest(ticks, places) {

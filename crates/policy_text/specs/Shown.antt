@@ -1,24 +1,13 @@
 -- What the reader of the program holds.
 use Rattle.std.specs.Prelude.{◌≡◌, List, Ok, Err, Result, IsOkAnd, T}
-use Rattle.access.specs.Policy.{Meaning}
-use Rattle.record_table.specs.TableMeaning.{table_meaning}
-use Rattle.record_table.specs.declared.table.RecordTable.{RecordTable}
 use Rattle.layers.specs.Labels.{label_of}
-use Rattle.layers.specs.Layers.{with_levels, with_owners}
-use Rattle.layers.specs.declared.layer.Layer.{Layer}
-use Rattle.layers.specs.declared.level.Levels.{Levels}
-use Rattle.layers.specs.declared.owner.Owners.{Owners}
-use Rattle.sheet.specs.Stands.{Stands}
+use Rattle.sheet.specs.Shown.{shown}
 use Rattle.sheet.specs.declared.request.Request.{Request}
 use Rattle.word_values.specs.declared.flaw.Flaw.{Flaw}
 use Rattle.policy_text.specs.Reading.{Reading, book_of, has_call}
 use Rattle.policy_text.specs.declared.head.Head.{Head}
 use Rattle.policy_text.specs.declared.controller.Controller.{Controller}
 use Rattle.policy_text.specs.declared.reader.Reader.{Reader}
-
--- what levels over owners over a record table mean
-abbrev pub pile_meaning : Layer (Layer RecordTable Owners) Levels → Meaning
-pile_meaning p = with_levels (with_owners (table_meaning p.below.below) (label_of p.below.rule.owners) p.below.rule.constrained.bits) (label_of p.rule.levels)
 
 -- what a head says, with calls behind it
 abbrev pub reading : Head → List Request → Reading
@@ -33,23 +22,23 @@ after (Err flaw) p = Err flaw
 pub record Holds (p : Reading) (reader : Reader) : Type 0 where
   pub says : p ≡ reading reader.head p.calls
   pub called : reader.called ≡ has_call p
-  pub stands : T reader.called → Stands pile_meaning (book_of p) reader.sheet
+  pub shows : T reader.called → shown reader.sheet ≡ book_of p
 
 -- a reader holds what was read, and its sheet is laid out
 pub record Opened (p : Reading) (reader : Reader) : Type 0 where
   pub says : p ≡ reading reader.head p.calls
   pub called : T reader.called
-  pub stands : Stands pile_meaning (book_of p) reader.sheet
+  pub shows : shown reader.sheet ≡ book_of p
 
 -- the reader holds what a line makes of what it held, or answers the line's flaw
 abbrev pub Follows : Result Reading Flaw → Result (Unit {0}) Flaw → Reader → Type 0
 Follows (Ok p) result reader = (result ≡ Ok tt) × Holds p reader
 Follows (Err flaw) result reader = result ≡ Err flaw
 
--- a controller as it was read: the names, and a sheet on which the book stands
+-- a controller as it was read: the names, and a sheet that shows the book
 pub record IsRead (p : Reading) (c : Controller) : Type 0 where
   pub names : c.names ≡ p.names
-  pub stands : Stands pile_meaning (book_of p) c.sheet
+  pub shows : shown c.sheet ≡ book_of p
 
 -- a text is read, or its flaw or fault is answered
 abbrev pub Reads : {E : Type 0} → Result Reading E → Result Controller E → Type 0

@@ -2,12 +2,12 @@
 ghost use Rattle.std.specs.Prelude.{◌≡◌, ◌+◌, ◌<◌, ◌≤◌, List, [], ◌∷◌, ◌++◌, length, OnOk};
 ghost use Rattle.words.specs.Left.{seen, left};
 ghost use Rattle.sheet.specs.Book.{start};
-ghost use Rattle.sheet.specs.Stands.{Stands};
+ghost use Rattle.sheet.specs.Shown.{shown};
 ghost use Rattle.sheet.specs.declared.request.Request.{Request};
 ghost use Rattle.text_calls.specs.Calls.{then};
 ghost use Rattle.policy_text.specs.Reading.{nothing, meaning_of};
 ghost use Rattle.policy_text.specs.Lines.{new_name_in, declared, constrained};
-ghost use Rattle.policy_text.specs.Shown.{reading, after, pile_meaning};
+ghost use Rattle.policy_text.specs.Shown.{reading, after};
 
 use crate::pile::Pile;
 use access::operation_set::OperationSet;
@@ -82,7 +82,7 @@ impl Head {
 
     /// The sheet before any call.
     pub(crate) fn lay_out(&self) -> Sheet<Pile>
-        ensures { 1 ≤ length self.now.names → Stands pile_meaning (start (meaning_of (reading self.now []))) result }
+        ensures { 1 ≤ length self.now.names → shown result ≡ start (meaning_of (reading self.now [])) }
     {
         let table = RecordTable::new(self.names.count());
         let owned = OwnerLayer::new(table, self.owners, self.constrained);

@@ -1,3 +1,4 @@
 pub mod Judgings
 pub mod Serving
 pub mod Replaying
+pub mod Same

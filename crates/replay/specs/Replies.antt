@@ -1,10 +1,13 @@
 -- What answers mean, and which of them a book calls for.
-use Rattle.std.specs.Prelude.{◌≡◌, ℕ, ◌↔◌, List, [], ◌∷◌, map, Some, None, Option, vec_items}
+use Rattle.std.specs.Prelude.{◌≡◌, ℕ, ◌↔◌, List, [], ◌∷◌, map, take, Some, None, Option}
 use Rattle.access.specs.Refusals.{refusal_number}
 use Rattle.access.specs.declared.refusal.Refusal.{Refusal}
 use Rattle.verdicts.specs.Verdicts.{Step, Guaranteed as Holds, Broken as Breaks}
 use Rattle.moves.specs.Moved.{stepped}
 use Rattle.properties.specs.declared.property.Property.{Property}
+use Rattle.moves.specs.declared.step.Step.{Step as LentStep}
+use Rattle.activities.specs.Found.{first_steps}
+use Rattle.judge.specs.Chosen.{Chosen}
 use Rattle.judge.specs.Judged.{property_of}
 use Rattle.sheet.specs.Book.{Book, refusal, fed}
 use Rattle.sheet.specs.Judging.{standing_grants}
@@ -27,15 +30,22 @@ abbrev pub reply_of : Answer → Reply
 reply_of Accepted = accepted
 reply_of (Refused why) = refused (refusal_number why)
 reply_of Guaranteed = guaranteed
-reply_of (Broken steps) = broken (map stepped (vec_items steps))
+reply_of (Broken steps count) = broken (map stepped (take count steps))
 reply_of (Number x) = number x
 reply_of (Operations set) = operations set.bits
 
+-- the steps are the first of a list by which a judging shows the property: of activities that are as short, those of the first
+pub record Choice (b : Book) (p : Property) (steps : List Step) : Type 0 where
+  pub lent : List LentStep
+  pub count : ℕ
+  pub chosen : Chosen b.policy (standing_grants b) (property_of p) lent count
+  pub are : steps ≡ first_steps count lent
+
 -- the reply shows the verdict: no legal run, of any length, realises an activity that the property forbids, or the steps show
--- the shortest that one realises
+-- the shortest that one realises, and of those the first
 abbrev pub Shows : Book → Property → Reply → Type 0
 Shows b p guaranteed = Holds b.policy (standing_grants b) (property_of p)
-Shows b p (broken steps) = Breaks b.policy (standing_grants b) (property_of p) steps
+Shows b p (broken steps) = Breaks b.policy (standing_grants b) (property_of p) steps × Choice b p steps
 Shows b p accepted = ⊥
 Shows b p (refused x) = ⊥
 Shows b p (number x) = ⊥
@@ -76,3 +86,7 @@ Right b q r = RightWhere (refusal b q) b q r
 pub data Replies : Book → List Request → List Reply → Type 0 where
   none : {b : Book} → Replies b [] []
   next : {b : Book} {q : Request} {r : Reply} {qs : List Request} {rs : List Reply} → Right b q r → Replies (fed b q) qs rs → Replies b (q ∷ qs) (r ∷ rs)
+
+-- what requests are replied depends on the book and on them alone: whoever serves them replies the same
+abbrev pub SameReplies : Type 0
+SameReplies = (b : Book) (qs : List Request) (rs ts : List Reply) → Replies b qs rs → Replies b qs ts → rs ≡ ts

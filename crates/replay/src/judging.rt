@@ -1,30 +1,42 @@
 //! A property is judged over lent memory of given lengths.
-ghost use Rattle.std.specs.Prelude.{IfOk};
-ghost use Rattle.sheet.specs.Book.{Book};
-ghost use Rattle.sheet.specs.Judging.{Fit};
-ghost use Rattle.sheet.specs.Stands.{Stands};
+ghost use Rattle.std.specs.Prelude.{◌≡◌};
+ghost use Rattle.sheet.specs.Shown.{shown};
 ghost use Rattle.sheet.specs.declared.request.Request.TheVariants.{Judge};
 ghost use Rattle.replay.specs.Replies.{reply_of, Right};
+ghost use Rattle.replay.specs.Calls.{judgingly};
 
-use crate::answer::Answer;
+use crate::answer::{Answer, MOST_STEPS};
 use access::operation::Operation;
 use access::policy::Policy;
+use access::refusal::Refusal;
 use judge::verdict::Verdict;
 use moves::step::Step;
 use search::Place;
 use sheet::sheet::Sheet;
-use std::alloc::{AllocError, Global};
 
-/// Judges a property, with memory of these lengths lent for it.
+/// As many ticks and places as 256 contexts take.
+const MOST_NODES: usize = 512;
+
+/// What a judging is answered that wrote these steps.
+fn shown_by(verdict: Result<Verdict, Refusal>, steps: [Step; MOST_STEPS]) -> Answer
+    ensures { result ≡ judgingly verdict steps }
+{
+    match verdict {
+        Ok(Verdict::Guaranteed) => Answer::Guaranteed,
+        Ok(Verdict::Broken { steps: count }) => Answer::Broken { steps, count },
+        Err(why) => Answer::Refused(why),
+    }
+}
+
+/// Judges a property, as with memory of these lengths lent for it: what is beyond the most that a judging takes is left out.
 pub(crate) fn judge<P: Policy>(
     sheet: &Sheet<P>,
-    alloc: Global,
     number: u16,
     ticks: usize,
     places: usize,
     steps: usize,
-) -> Result<Answer, AllocError>
-    ensures { (b : Book) → Stands P.Policy.meaning b sheet.now → Fit b → IfOk result (λ a. Right b (Judge number ticks places steps) (reply_of a)) }
+) -> Answer
+    ensures { Right (shown sheet.now) (Judge number ticks places steps) (reply_of result) }
 {
     let unwritten = Step {
         subject: 0,
@@ -32,17 +44,14 @@ pub(crate) fn judge<P: Policy>(
         operation: Operation::Read,
         origin: 0,
     };
-    let mut ticks = vec![in alloc; 0u8; ticks]?;
-    let mut places = vec![in alloc; Place::default(); places]?;
-    let mut steps = vec![in alloc; unwritten; steps]?;
-    Ok(
-        match sheet.judge(number, &mut ticks, &mut places, &mut steps) {
-            Ok(Verdict::Guaranteed) => Answer::Guaranteed,
-            Ok(Verdict::Broken { steps: count }) => {
-                steps.truncate(count);
-                Answer::Broken { steps }
-            }
-            Err(why) => Answer::Refused(why),
-        },
-    )
+    let mut all_ticks = [0u8; MOST_NODES];
+    let mut all_places = [Place::default(); MOST_NODES];
+    let mut all_steps = [unwritten; MOST_STEPS];
+    let verdict = sheet.judge(
+        number,
+        &mut all_ticks[..ticks.min(MOST_NODES)],
+        &mut all_places[..places.min(MOST_NODES)],
+        &mut all_steps[..steps.min(MOST_STEPS)],
+    );
+    shown_by(verdict, all_steps)
 }

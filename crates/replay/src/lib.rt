@@ -3,9 +3,6 @@
 #![tactic(auto)]
 
 pub mod answer;
-mod bare;
-mod deciding;
 mod judging;
-pub mod outcome;
 pub mod replay;
 pub mod session;

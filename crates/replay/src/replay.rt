@@ -1,53 +1,32 @@
 //! Requests served one after another.
-ghost use Rattle.std.specs.Prelude.{◌≡◌, []};
-ghost use Rattle.sheet.specs.Book.{Book};
-ghost use Rattle.sheet.specs.Stands.{shown};
-ghost use Rattle.replay.specs.Ready.{Ready};
-ghost use Rattle.replay.specs.Promise.{InTurn, Promise};
+ghost use Rattle.std.specs.Prelude.{is_some};
+ghost use Rattle.sheet.specs.Book.{start};
+ghost use Rattle.sheet.specs.Shown.{shown};
+ghost use Rattle.replay.specs.Replies.{SameReplies};
+ghost use Rattle.replay.specs.Promise.{Promise};
 
 use crate::answer::Answer;
-use crate::outcome::Outcome;
 use crate::session::Session;
 use access::policy::Policy;
 use sheet::request::Request;
 use sheet::sheet::Sheet;
-use std::alloc::{AllocError, Global};
 
-impl<P: Policy> Session<P> {
-    /// Serves requests, each by the sheet's own call, until memory for an answer wants.
-    fn serve_all(
-        &mut self,
-        alloc: Global,
-        requests: &[Request],
-        answers: &mut Vec<Answer>,
-    ) -> Result<(), AllocError>
-        requires ready { Ready P.Policy.meaning (shown P.Policy.meaning self.old.sheet) self.old }
-        requires empty { answers.old.items ≡ [] }
-        ensures { (b : Book) → Ready P.Policy.meaning b self.old → InTurn P.Policy.meaning b requests.now self.new answers.new.items result }
-    {
-        answers.reserve(requests.len())?;
-        for &request in requests {
-            let answer = self.serve(alloc, request)?;
-            answers.push(answer).unwrap();
-        }
-        Ok(())
-    }
-}
-
-/// Lays out a sheet with a policy, serves requests on it, each by the sheet's own call, and hands back the sheet, the change that is
-/// still held, and the answers.
-pub fn replay<P: Policy>(alloc: Global, policy: P, requests: &[Request]) -> Outcome<P>
-    ensures { Promise P.Policy.meaning policy requests.now result.session result.answers.items result.served }
+/// Lays out a sheet with a policy, serves as many requests on it as there is room for answers, each by the sheet's own call, and hands back
+/// the sheet with the change that is still held.
+pub fn replay<P: Policy>(policy: P, requests: &[Request], answers: &mut [Answer]) -> Session<P>
+    ensures { Promise (start (P.Policy.meaning policy)) requests.now answers.old answers.new (shown result.sheet) (is_some result.held) }
 {
     let mut session = Session {
         sheet: Sheet::lay_out(policy),
         held: None,
     };
-    let mut answers = Vec::new(alloc);
-    let served = session.serve_all(alloc, requests, &mut answers);
-    Outcome {
-        session,
-        answers,
-        served,
+    for i in 0..requests.len().min(answers.len()) {
+        answers[i] = session.serve(requests[i]);
     }
+    session
 }
+
+/// Whoever serves requests replies the same.
+pub fn same_replies_stand()
+    ensures { SameReplies }
+{}

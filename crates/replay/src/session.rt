@@ -1,23 +1,24 @@
 //! A sheet with the change that its caller holds, and how one request is served.
-ghost use Rattle.std.specs.Prelude.{◌≡◌};
-ghost use Rattle.sheet.specs.Book.{Book};
-ghost use Rattle.sheet.specs.Stands.{shown};
-ghost use Rattle.replay.specs.Ready.{Ready, Served};
-ghost use Rattle.replay.specs.Calls.{plainly};
+ghost use Rattle.std.specs.Prelude.{◌≡◌, is_some};
+ghost use Rattle.sheet.specs.Book.{refusal, fed};
+ghost use Rattle.sheet.specs.Shown.{shown, spent};
+ghost use Rattle.sheet.specs.declared.request.Request.TheVariants.{Open, Withdraw};
+ghost use Rattle.replay.specs.Replies.{reply_of, Right};
+ghost use Rattle.replay.specs.Calls.{plainly, deciding};
 
 use crate::answer::Answer;
 use crate::judging::judge;
 use access::policy::Policy;
 use access::refusal::Refusal;
-use sheet::change::Change;
+use sheet::change::{Change, Undecided};
 use sheet::request::Request;
 use sheet::sheet::Sheet;
-use std::alloc::{AllocError, Global};
 
-/// A sheet, and the open change that is held beside it.
-pub struct Session<P> {
+/// A sheet, and the open change that is held beside it: one is held while one is open, and only then.
+pub struct Session<P: Policy> {
     pub sheet: Sheet<P>,
     pub held: Option<Change>,
+    ghost holds: { is_some held ≡ is_some (shown sheet).change },
 }
 
 /// What a call is answered that tells nothing but its refusal.
@@ -30,11 +31,51 @@ fn told(outcome: Result<(), Refusal>) -> Answer
     }
 }
 
+/// Adopts a change where its settings are kept, and withdraws it where not.
+fn decide<P: Policy>(sheet: &mut Sheet<P>, change: Change, keeps: bool) -> Result<(), Undecided>
+    ensures told { result ≡ spent change (refusal (shown sheet.old) (deciding keeps)) }
+    ensures done { shown sheet.new ≡ fed (shown sheet.old) (deciding keeps) }
+{
+    match keeps {
+        true => sheet.adopt(change),
+        false => sheet.withdraw(change),
+    }
+}
+
 impl<P: Policy> Session<P> {
+    /// Serves a request to open a change.
+    fn open(&mut self) -> Answer
+        ensures answer { Right (shown self.old.sheet) Open (reply_of result) }
+        ensures done { shown self.new.sheet ≡ fed (shown self.old.sheet) Open }
+    {
+        match self.sheet.open() {
+            Ok(change) => match self.held.replace(change) {
+                None => Answer::Accepted,
+                Some(_) => unreachable!(),
+            },
+            Err(why) => Answer::Refused(why),
+        }
+    }
+
+    /// Serves a request to adopt or to withdraw the open change.
+    fn end(&mut self, keeps: bool) -> Answer
+        ensures answer { Right (shown self.old.sheet) (deciding keeps) (reply_of result) }
+        ensures done { shown self.new.sheet ≡ fed (shown self.old.sheet) (deciding keeps) }
+    {
+        // None is open where none is held, and without one the sheet cannot be called.
+        let Some(change) = self.held.take() else {
+            return Answer::Refused(Refusal::NoneOpen);
+        };
+        match decide(&mut self.sheet, change, keeps) {
+            Ok(()) => Answer::Accepted,
+            Err(_) => unreachable!(),
+        }
+    }
+
     /// Serves one request by the sheet's own call.
-    pub(crate) fn serve(&mut self, alloc: Global, request: Request) -> Result<Answer, AllocError>
-        requires { Ready P.Policy.meaning (shown P.Policy.meaning self.old.sheet) self.old }
-        ensures { (b : Book) → Ready P.Policy.meaning b self.old → Served P.Policy.meaning b request result self.new }
+    pub(crate) fn serve(&mut self, request: Request) -> Answer
+        ensures answer { Right (shown self.old.sheet) request (reply_of result) }
+        ensures done { shown self.new.sheet ≡ fed (shown self.old.sheet) request }
     {
         let sheet = &mut self.sheet;
         match request {
@@ -42,31 +83,45 @@ impl<P: Policy> Session<P> {
                 subject,
                 target,
                 operations,
-            } => Ok(told(sheet.set(subject, target, operations))),
-            Request::EnterGrant { number, grant } => Ok(told(sheet.enter_grant(number, grant))),
-            Request::StrikeGrant { number } => Ok(told(sheet.strike_grant(number))),
+            } => told(sheet.set(subject, target, operations)),
+            Request::EnterGrant { number, grant } => told(sheet.enter_grant(number, grant)),
+            Request::StrikeGrant { number } => told(sheet.strike_grant(number)),
             Request::EnterProperty { number, property } => {
-                Ok(told(sheet.enter_property(number, property)))
+                told(sheet.enter_property(number, property))
             }
-            Request::StrikeProperty { number } => Ok(told(sheet.strike_property(number))),
-            Request::Open => Ok(self.open()),
-            Request::Adopt => Ok(self.end(true)),
-            Request::Withdraw => Ok(self.end(false)),
+            Request::StrikeProperty { number } => told(sheet.strike_property(number)),
+            Request::Open => self.open(),
+            Request::Adopt => self.end(true),
+            Request::Withdraw => self.end(false),
             Request::Judge {
                 number,
                 ticks,
                 places,
                 steps,
-            } => judge(sheet, alloc, number, ticks, places, steps),
-            Request::AskSettings => Ok(Answer::Number(sheet.settings())),
-            Request::AskContexts => Ok(Answer::Number(u32::from(sheet.contexts()))),
-            Request::AskCapacity => Ok(Answer::Number(sheet.capacity())),
+            } => judge(sheet, number, ticks, places, steps),
+            Request::AskSettings => Answer::Number(sheet.settings()),
+            Request::AskContexts => Answer::Number(u32::from(sheet.contexts())),
+            Request::AskCapacity => Answer::Number(sheet.capacity()),
             Request::AskWritten { subject, target } => {
-                Ok(Answer::Operations(sheet.written(subject, target)))
+                Answer::Operations(sheet.written(subject, target))
             }
             Request::AskPermitted { subject, target } => {
-                Ok(Answer::Operations(sheet.permitted(subject, target)))
+                Answer::Operations(sheet.permitted(subject, target))
             }
+        }
+    }
+
+    /// The sheet, a change that is still open withdrawn.
+    pub fn close(self) -> Sheet<P>
+        ensures { shown result ≡ fed (shown self.sheet) Withdraw }
+    {
+        let Session { mut sheet, held } = self;
+        let Some(change) = held else {
+            return sheet;
+        };
+        match sheet.withdraw(change) {
+            Ok(()) => sheet,
+            Err(_) => unreachable!(),
         }
     }
 }

@@ -1,4 +1,4 @@
-//! Requests to judge each of the 64 properties: that memory is had for each no contract can say.
+//! Requests to judge each of the 64 properties.
 
 #![tactic(auto)]
 
@@ -53,15 +53,13 @@ mod tests {
         let Ok(table) = writing() else {
             return Err(Fail::new("the table is not accepted"));
         };
-        let outcome = replay(rt.alloc(), table, &requests);
-        let served = outcome.served.is_ok();
-        let broken = outcome
-            .answers
+        let mut answers = vec![in rt.alloc(); Answer::Accepted; requests.len()]?;
+        let session = replay(table, &requests, &mut answers);
+        let broken = answers
             .iter()
             .filter(|answer| matches!(answer, Answer::Broken { .. }))
             .count();
-        let sheet = outcome.close();
-        assert!(rt; served);
+        let sheet = session.close();
         assert_eq!(rt; broken, 64);
         assert_eq!(rt; sheet.settings(), 0);
         Ok(())

@@ -1,5 +1,5 @@
 -- From a judging and the writing of its verdict to the report of a property.
-use Rattle.std.proofs.Common.{◌≡◌, ℕ, ◌≤◌, Bool, true, false, List, [], ◌∷◌, length, Some, None, Ok, Err, Option, Result, unwrap_or, refl, subst, arith}
+use Rattle.std.proofs.Common.{◌≡◌, ℕ, ◌≤◌, Bool, true, false, List, [], ◌∷◌, length, Some, None, Ok, Err, Option, Result, unwrap_or, refl, arith}
 use Rattle.std.proofs.lemmas.Bool.Decides.{nat_tests}
 use Rattle.std.specs.Option.{option_or}
 use Rattle.std.specs.Result.{result_err}
@@ -12,7 +12,7 @@ use Rattle.properties.specs.declared.property.Property.{Property}
 use Rattle.judge.specs.declared.verdict.Verdict.{Verdict}
 use Rattle.judge.specs.declared.verdict.Verdict.TheVariants.{Guaranteed, Broken}
 use Rattle.sheet.specs.Book.{Book}
-use Rattle.sheet.specs.Judging.{fits, VerdictOn, Judges}
+use Rattle.sheet.specs.Judging.{VerdictOn, VerdictOnEntry, Judges}
 use Rattle.report.specs.Parts.{has_room_for, WritesPart}
 use Rattle.report.specs.Reporting.{reporting_refusal, Reports}
 
@@ -36,8 +36,7 @@ none_applies : (outside missing short : Bool) → judging outside missing short 
 none_applies outside missing short e = (grind arith, grind arith)
 
 module _ (b : Book) (k : ℕ) (names : List (List ℕ)) (ts : List ℕ) (ps ps' : List Place) (ss ss' : List Step) (ms ms' : List ℕ) (v : Verdict)
-    (few : b.policy.contexts ≤ 256) (kept : length ss' ≡ length ss) (long : 16384 ≤ length ms) (fit : fits b.policy.contexts (b.properties k) ≡ true)
-    (judged : Judges b k ts ps ps' ss ss' (Ok v)) where
+    (few : b.policy.contexts ≤ 256) (kept : length ss' ≡ length ss) (long : 16384 ≤ length ms) (judged : Judges b k ts ps ps' ss ss' (Ok v)) where
   -- a verdict's steps are no more than the contexts, which are no more than the steps lent
   room_on : (p : Property) → (w : Verdict) → VerdictOn b p ss ss' w → has_room_for w (length ss') ≡ true
   room_on p Guaranteed j = refl
@@ -46,11 +45,10 @@ module _ (b : Book) (k : ℕ) (names : List (List ℕ)) (ts : List ℕ) (ps ps' 
       let enough : b.policy.contexts ≤ length ss = grind (arith, nat_tests, parts.1) in
       grind (arith, nat_tests, enough, j.0.2, kept, few)
 
-  room : (o : Option Property) → b.properties k ≡ o → has_room_for v (length ss') ≡ true
-  room None e = let missing = rw e at (none_applies _ _ _ judged.0).0 in absurd (cc)
-  room (Some p) e = room_on p v (judged.1 p e (subst (λ (x : Option Property). fits b.policy.contexts x ≡ true) e fit))
+  room : (o : Option Property) → VerdictOnEntry b o ss ss' v → has_room_for v (length ss') ≡ true
+  room None told = absurd told
+  room (Some p) told = room_on p v told
 
   pub reports : (r : Result ℕ Refusal) → WritesPart k v ss' names ms ms' r → Reports b k names (length ts) ps ps' ss ss' ms ms' r
-  reports (Ok n) (none, written) =
-      (rw judged.0 (grind (arith, nat_tests)), λ p e. record { verdict = v; right = judged.1 p e (subst (λ (x : Option Property). fits b.policy.contexts x ≡ true) e fit); in_front = written })
-  reports (Err w) (some, same) = let fits = room (b.properties k) refl in absurd (grind (arith, nat_tests, rw fits at some))
+  reports (Ok n) (none, written) = (rw judged.0 (grind (arith, nat_tests)), record { verdict = v; right = judged.1; in_front = written })
+  reports (Err w) (some, same) = let fits = room (b.properties k) judged.1 in absurd (grind (arith, nat_tests, rw fits at some))

@@ -1,9 +1,7 @@
 //! A property of a sheet is judged and reported.
-ghost use Rattle.std.specs.Prelude.{◌≡◌, ℕ, true, ◌&&◌, length, replicate, is_some, Some, MatchOption};
+ghost use Rattle.std.specs.Prelude.{◌≡◌, ℕ, ◌&&◌, length, replicate, is_some, Some, MatchOption};
 ghost use Rattle.access.specs.Contexts.{inside};
-ghost use Rattle.sheet.specs.Book.{Book};
-ghost use Rattle.sheet.specs.Stands.{Stands};
-ghost use Rattle.sheet.specs.Judging.{fits};
+ghost use Rattle.sheet.specs.Shown.{shown};
 ghost use Rattle.report.specs.Reporting.{reporting_refusal, Reports, NoneAbove, IsNext};
 
 use crate::part::{REPORT_MEMORY, write_part};
@@ -23,7 +21,7 @@ fn refusal_without_memory<P: Policy>(
     number: u16,
     ticks: &mut [u8],
 ) -> Refusal
-    ensures answer { (b : Book) (places steps : ℕ) → Stands P.Policy.meaning b judging.now.sheet.now → reporting_refusal b number (length ticks.old) places steps 0 ≡ Some result }
+    ensures answer { (places steps : ℕ) → reporting_refusal (shown judging.now.sheet.now) number (length ticks.old) places steps 0 ≡ Some result }
     ensures ticks { ticks.new ≡ replicate (length ticks.old) 0 }
 {
     // Over no places and no steps, which are too few for any policy: so a refusal that comes first is answered.
@@ -45,7 +43,7 @@ pub fn report_property<P: Policy>(
     steps: &mut [Step],
     memory: &mut [u8],
 ) -> Result<usize, Refusal>
-    ensures answer { (b : Book) → Stands P.Policy.meaning b judging.now.sheet.now → fits b.policy.contexts (b.properties number) ≡ true → Reports b number names.now (length ticks.old) places.old places.new steps.old steps.new memory.old memory.new result }
+    ensures answer { Reports (shown judging.now.sheet.now) number names.now (length ticks.old) places.old places.new steps.old steps.new memory.old memory.new result }
     ensures ticks { ticks.new ≡ replicate (length ticks.old) 0 }
 {
     if memory.len() < REPORT_MEMORY {
@@ -58,7 +56,7 @@ pub fn report_property<P: Policy>(
 /// Whether a property stands.
 // A sheet is not asked that, but its refusals tell: only the judging of a property that stands gets as far as the memory.
 fn stands<P: Policy>(judging: &Judging<'_, P>, number: u16) -> bool
-    ensures { (b : Book) → Stands P.Policy.meaning b judging.now.sheet.now → result ≡ (inside 64 number && is_some (b.properties number)) }
+    ensures { result ≡ (inside 64 number && is_some ((shown judging.now.sheet.now).properties number)) }
 {
     matches!(
         refusal_without_memory(judging, number, &mut []),
@@ -69,7 +67,7 @@ fn stands<P: Policy>(judging: &Judging<'_, P>, number: u16) -> bool
 /// The first property above a number that stands. A whole report has the parts of its properties by rising number: of the one
 /// above 0 and then each time of the one above the last.
 pub fn next_property<P: Policy>(judging: &Judging<'_, P>, after: u16) -> Option<u16>
-    ensures { (b : Book) → Stands P.Policy.meaning b judging.now.sheet.now → MatchOption result (NoneAbove b after) (IsNext b after) }
+    ensures { MatchOption result (NoneAbove (shown judging.now.sheet.now) after) (IsNext (shown judging.now.sheet.now) after) }
 {
     for number in after.saturating_add(1)..=MOST_PROPERTIES {
         if stands(judging, number) {

@@ -1,10 +1,13 @@
 -- Why a search ends with a shortest walk, or with none.
-use Rattle.std.proofs.Common.{◌≡◌, ℕ, zero, suc, ◌+◌, ◌-◌, ◌<◌, ◌≤◌, true, List, length, get_or, replicate, sym, refl, ap, ◌∙◌, subst, ⊎_elim, add-one, arith}
+use Rattle.std.proofs.Common.{◌≡◌, ℕ, zero, suc, ◌+◌, ◌-◌, ◌<◌, ◌≤◌, true, List, length, get_or, replicate, Some, None, false, sym, refl, ap, ◌∙◌, subst, ⊎_elim, add-one, arith}
 use Rattle.std.proofs.lemmas.List.{length-replicate, get_or-replicate}
 use Rattle.std.proofs.lemmas.Bool.{cases_eq, cases_lt}
-use Rattle.search.specs.Problem.{Problem, Walk, Way, Nowhere, Least}
+use Rattle.search.specs.Problem.{Problem, Way, Nowhere, Least}
 use Rattle.search.specs.Problem.Walk.{stay, step}
-use Rattle.search.specs.Queue.{at, total, Sound, At, Grown, Struck, Went, Ready, Spread, Kept, Found, Fits}
+use Rattle.search.specs.Queue.{at, total, Sound, At, Grown, Struck, Went, Ready, Spread, Kept, Found, Fits, Born, Children, way_back}
+use Rattle.search.specs.Trails.{Foremost}
+use Rattle.search.proofs.Trails.{back_trail}
+use Rattle.search.proofs.Order.{reach, before_head, order_on, order_start, foremost_on}
 use Rattle.search.specs.declared.Place.{Place}
 use Rattle.search.proofs.Frontier.{used_le, at_kept}
 
@@ -25,39 +28,25 @@ way_below p ps last (suc n) i s l m =
     (cases_eq (at ps i).depth 0)
 
 module _ (p : Problem) (ts : List ℕ) (ps : List Place) (used head : ℕ) (s : Spread p ts ps used head) where
-  -- a walk of at most d edges ends at a used place, where the used places that are less deep than d have been scanned
-  reach : (d a : ℕ) → ((i : ℕ) → i < used → (at ps i).depth < d → i < head) → p.source a ≡ true → (b k : ℕ) → Walk p a b k → k ≤ d → At ps used b k
-  reach d a f t b k (stay l) m = s.sources a l t
-  reach d a f t b k (step {b = b'} {k = k'} w l e) m =
-      let x = reach d a f t b' k' w (omega arith) in
-      let y = s.scanned x.index (f x.index x.below (omega (arith, x.depth))) b l (subst (λ v. p.edge v b ≡ true) (sym x.is) e) in
-      record { index = y.index; below = y.below; is = y.is; depth = omega (arith, y.depth, x.depth) }
-
   met : (b k : ℕ) → p.target b ≡ true → At ps used b k → ⊥
   met b k t x = s.«open» x.index x.below (subst (λ v. p.target v ≡ true) (sym x.is) t)
 
   pub nowhere : used ≤ head → Nowhere p
-  nowhere l b k t w = met b k t (reach k w.start (λ i m _. omega arith) w.begins b k w.walk (omega arith))
+  nowhere l b k t w = met b k t (reach p ts ps used head s k w.start (λ i m _. omega arith) w.begins b k w.walk (omega arith))
 
   least : head < used → Least p ((at ps head).depth + 1)
   least l b k t w =
       ⊎_elim
       (λ (m : (at ps head).depth < k). omega arith)
       (λ (m : k ≤ (at ps head).depth).
-      absurd (met b k t (reach (at ps head).depth w.start before w.begins b k w.walk m)))
+      absurd (met b k t (reach p ts ps used head s (at ps head).depth w.start (before_head p ts ps used head s) w.begins b k w.walk m)))
       (cases_lt (at ps head).depth k)
-    where
-      before : (i : ℕ) → i < used → (at ps i).depth < (at ps head).depth → i < head
-      before i m n =
-          ⊎_elim
-          (λ (h : i < head). h)
-          (λ (h : head ≤ i). absurd (omega (arith, s.queue.rising head i h m)))
-          (cases_lt i head)
 
 -- a scan of the place `head`
 spread_on : (p : Problem) {ts ts' : List ℕ} {ps ps' : List Place} {used more head : ℕ} → Spread p ts ps used head → head < used →
-    Went p ts ts' ps ps' used more ((at ps head).depth + 1) (λ v. p.edge (at ps head).node v ≡ true) → Spread p ts' ps' more (head + 1)
-spread_on p {ts} {ts'} {ps} {ps'} {used} {more} {head} s l w =
+    Went p ts ts' ps ps' used more ((at ps head).depth + 1) (λ v. p.edge (at ps head).node v ≡ true) →
+    Children p (Some (at ps head).node) head ((at ps head).depth + 1) ps' used more p.nodes → Spread p ts' ps' more (head + 1)
+spread_on p {ts} {ts'} {ps} {ps'} {used} {more} {head} s l w ch =
     let same = w.grown.same in
     let further = w.grown.further in
     record {
@@ -78,12 +67,13 @@ spread_on p {ts} {ts'} {ps} {ps'} {used} {more} {head} s l w =
           let c = w.covers v k (subst (λ (y : Place). p.edge y.node v ≡ true) q e) in
           record { index = c.index; below = c.below; is = c.is; depth = omega (arith, c.depth, ap (λ (y : Place). y.depth) q) })
           (cases_lt i head);
+      ordered = order_on p s l w.grown ch;
     }
 
 -- a search that met a target at the least depth has found it
 pub found : (p : Problem) {ts ts' : List ℕ} {ps ps' : List Place} {used more d : ℕ} → Struck p ts ts' ps ps' used more d → Least p d →
-    (0 < more) × Found p ps' (more - 1)
-found p {ps' = ps'} {more = more} s l = (
+    Foremost p (way_back ps' (more - 1)) → (0 < more) × Found p ps' (more - 1)
+found p {ps' = ps'} {more = more} s l f = (
   s.some,
   record {
     below = omega (arith, used_le _ _ _ _ s.grown.queue, s.some);
@@ -91,6 +81,8 @@ found p {ps' = ps'} {more = more} s l = (
     sound = sound;
     way = way_below p ps' (more - 1) more (more - 1) sound (omega (arith, s.some)) (omega arith);
     least = subst (λ n. Least p n) (sym s.depth) l;
+    trail = back_trail p ps' more s.grown.queue.sound (at ps' (more - 1)).depth (more - 1) (omega (arith, s.some)) refl;
+    first = f;
   },
 )
   where
@@ -99,12 +91,15 @@ found p {ps' = ps'} {more = more} s l = (
 
 -- the same, where the place is known by another name
 module _ (p : Problem) {ts ts' : List ℕ} {ps ps' : List Place} {used more head : ℕ} {from : Place} (s : Spread p ts ps used head) (l : head < used) (e : at ps head ≡ from) where
-  pub spread_more : Went p ts ts' ps ps' used more (from.depth + 1) (λ v. p.edge from.node v ≡ true) → Spread p ts' ps' more (head + 1)
-  spread_more w =
+  pub spread_more : Went p ts ts' ps ps' used more (from.depth + 1) (λ v. p.edge from.node v ≡ true) → Born p (Some from.node) head (from.depth + 1) ps' used more false → Spread p ts' ps' more (head + 1)
+  spread_more w b =
       spread_on p s l (subst (λ (x : Place). Went p ts ts' ps ps' used more (x.depth + 1) (λ v. p.edge x.node v ≡ true)) (sym e) w)
+      (subst (λ (x : Place). Born p (Some x.node) head (x.depth + 1) ps' used more false) (sym e) b)
 
-  pub found_next : Struck p ts ts' ps ps' used more (from.depth + 1) → (0 < more) × Found p ps' (more - 1)
-  found_next w = found p w (subst (λ (x : Place). Least p (x.depth + 1)) e (least p ts ps used head s l))
+  pub found_next : Struck p ts ts' ps ps' used more (from.depth + 1) → Born p (Some from.node) head (from.depth + 1) ps' used more true → (0 < more) × Found p ps' (more - 1)
+  found_next w b =
+      found p w (subst (λ (x : Place). Least p (x.depth + 1)) e (least p ts ps used head s l))
+      (foremost_on p s l (subst (λ (x : Place). Struck p ts ts' ps ps' used more (x.depth + 1)) (sym e) w) (subst (λ (x : Place). Born p (Some x.node) head (x.depth + 1) ps' used more true) (sym e) b))
 
 -- no more than the first `nodes` places are written
 pub kept : (p : Problem) {ts ts' : List ℕ} {ps ps' : List Place} {used more : ℕ} → Grown p ts ts' ps ps' used more → Kept p ps ps'
@@ -126,6 +121,7 @@ ready_none p ts ps used n z a b e =
             marks = λ v l. omega (arith, none v l);
             counted = z ∙ sym (total_none ts p.nodes none);
             placed = λ v l o. absurd (omega (arith, none v l));
+            ticked = λ i l. absurd (omega arith);
             sound = λ i l. absurd (omega arith);
             rising = λ i j l m. absurd (omega arith);
           };
@@ -138,8 +134,8 @@ ready_none p ts ps used n z a b e =
 
 -- once the sources are pushed the scan may begin
 pub spread_none : (p : Problem) {ts ts' : List ℕ} {ps ps' : List Place} {used more : ℕ} →
-    Went p ts ts' ps ps' used more 0 (λ v. p.source v ≡ true) → Spread p ts' ps' more 0
-spread_none p w =
+    used ≡ 0 → Went p ts ts' ps ps' used more 0 (λ v. p.source v ≡ true) → Born p None 0 0 ps' used more false → Spread p ts' ps' more 0
+spread_none p z w b =
     record {
       queue = w.grown.queue;
       «open» = w.«open»;
@@ -147,4 +143,5 @@ spread_none p w =
       reached = omega arith;
       sources = w.covers;
       scanned = λ i l. absurd (omega arith);
+      ordered = order_start p z w.grown b;
     }

@@ -5,7 +5,7 @@ use Rattle.std.proofs.lemmas.Bool.{both_ways, cases_eq, cases_lt}
 use Rattle.lent.specs.declared.Cleared.{Cleared}
 use Rattle.lent.specs.declared.List.{List as Places}
 use Rattle.search.specs.Problem.{Problem}
-use Rattle.search.specs.Queue.{blank, at, total, After, Sound, At, Open, Within, Queue, Grown, Struck, Went, Ready, Waiting, Stepped, Lent}
+use Rattle.search.specs.Queue.{blank, at, total, After, Sound, At, Open, Within, Queue, Grown, Struck, Went, Ready, Waiting, Stepped, Pushed, Lent}
 use Rattle.search.specs.declared.Place.{Place}
 
 pub total_le : (ts : List ℕ) (n : ℕ) → ((v : ℕ) → v < n → get_or ts v 0 ≤ 1) → total ts n ≤ n
@@ -97,6 +97,22 @@ module _ (p : Problem) (ts : List ℕ) (ps : List Place) (used : ℕ) (q : Place
       old : ((i : ℕ) × (i < used) × ((at ps i).node ≡ v)) → (i : ℕ) × (i < used + 1) × ((at (set ps used q) i).node ≡ v)
       old w = (w.0, omega (arith, w.1), ap (λ (x : Place). x.node) (same w.0 w.1) ∙ w.2)
 
+  still_ticked : (v : ℕ) → get_or ts v 0 ≡ 1 → get_or (set ts q.node 1) v 0 ≡ 1
+  still_ticked v h = ⊎_elim (λ (e : v ≡ q.node). subst (λ x. get_or (set ts q.node 1) x 0 ≡ 1) (sym e) here) (λ (e : get_or (set ts q.node 1) v 0 ≡ get_or ts v 0). e ∙ h) (ticked v)
+    where
+      here : get_or (set ts q.node 1) q.node 0 ≡ 1
+      here = get_or-set_same ts q.node 1 0 (omega (arith, s.node, r.queue.fits.ticks))
+
+  all_ticked : (i : ℕ) → i < used + 1 → get_or (set ts q.node 1) (at (set ps used q) i).node 0 ≡ 1
+  all_ticked i l =
+      ⊎_elim
+      (λ (h : i < used). subst (λ (x : Place). get_or (set ts q.node 1) x.node 0 ≡ 1) (sym (same i h)) (still_ticked (at ps i).node (r.queue.ticked i h)))
+      (λ (h : used ≤ i).
+      let e : used ≡ i = omega arith in
+      subst (λ k. get_or (set ts q.node 1) (at (set ps used q) k).node 0 ≡ 1) e
+      (subst (λ (x : Place). get_or (set ts q.node 1) x.node 0 ≡ 1) (sym new) (get_or-set_same ts q.node 1 0 (omega (arith, s.node, r.queue.fits.ticks)))))
+      (cases_lt i used)
+
   sound : (i : ℕ) → i < used + 1 → Sound p (set ps used q) i (at (set ps used q) i)
   sound i l =
       ⊎_elim
@@ -141,6 +157,7 @@ module _ (p : Problem) (ts : List ℕ) (ps : List Place) (used : ℕ) (q : Place
               marks = marks;
               counted = omega (arith, r.queue.counted, total_set ts p.nodes q.node s.node (omega (arith, s.node, r.queue.fits.ticks)) z);
               placed = placed;
+              ticked = all_ticked;
               sound = sound;
               rising = rising;
             };
@@ -190,6 +207,11 @@ stepped_push p t t' l l' q true r s z e f h g =
 stepped_push p t t' l l' q false r s z e f h g =
     rw (e, f, h) (went_push p t.bytes.now l.items.now l.len q r s z (both_ways _ (sym g)))
 
+-- a visit writes its place behind the others
+pub put_behind : (p : Problem) (t : Cleared) (l l' : Places Place) (q : Place) → Waiting p t l q.depth → Sound p l.items.now l.len q →
+    get_or t.bytes.now q.node 0 ≡ 0 → l'.items.now ≡ set l.items.now l.len q → l'.len ≡ l.len + 1 → Pushed l l' q
+put_behind p t l l' q r s z f h = (h, ap (λ ps. at ps l.len) f ∙ new p t.bytes.now l.items.now l.len q r s z)
+
 -- a place that was used still is
 pub at_kept : {ps ps' : List Place} {used more v d e : ℕ} → ((i : ℕ) → i < used → at ps' i ≡ at ps i) → used ≤ more → d ≤ e → At ps used v d → At ps' more v e
 at_kept same l m x =
@@ -205,9 +227,9 @@ module _ (p : Problem) {t₀ t₁ : List ℕ} {s₀ s₁ : List Place} {a b : �
   pub ready : {S : ℕ → Type 0} → Went p t₀ t₁ s₀ s₁ a b d S → Ready p t₁ s₁ b d
   ready g = record { queue = g.grown.queue; «open» = g.«open»; within = g.within }
 
--- what a loop over nodes keeps: it went over the nodes of S, on the same lent memory
-abbrev pub Turn : Problem → Cleared → Cleared → Places Place → Places Place → ℕ → (ℕ → Type 0) → Type 0
-Turn p t t' q q' d S = Stepped p t t' q q' d S false × Lent t t' q q'
+-- what a loop over nodes keeps: no target was met, on the same lent memory
+abbrev pub Turn : Problem → Cleared → Cleared → Places Place → Places Place → ℕ → Type 0
+Turn p t t' q q' d = Stepped p t t' q q' d (λ _. ⊥) false × Lent t t' q q'
 
 pub lent_then : {a b c d e f : ℕ} → (b ≡ a) × (e ≡ d) → (c ≡ b) × (f ≡ e) → (c ≡ a) × (f ≡ d)
 lent_then g h = (h.0 ∙ g.0, h.1 ∙ g.1)

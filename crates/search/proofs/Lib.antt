@@ -1,3 +1,7 @@
 pub mod Frontier
+pub mod Trails
+pub mod Children
+pub mod Order
 pub mod Distance
 pub mod Shortness
+pub mod Agreeing

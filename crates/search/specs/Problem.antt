@@ -1,5 +1,5 @@
 -- Graphs on the numbers below `nodes`, and their walks.
-use Rattle.std.specs.Prelude.{◌≡◌, ℕ, suc, ◌<◌, ◌≤◌, Bool, true, false, Option, Some, None, MatchOption}
+use Rattle.std.specs.Prelude.{◌≡◌, ℕ, suc, ◌<◌, ◌≤◌, Bool, true, false, not, ◌&&◌, Option, Some, None, MatchOption}
 
 -- a graph, with the nodes where a walk may begin and those where it should end
 pub record Problem : Type 0 where
@@ -18,6 +18,10 @@ pub record FirstAt (test : ℕ → Bool) (start end v : ℕ) : Type 0 where
 -- the first number from `start` on, below `end`, that passes a test, or none where none does
 abbrev pub First : (ℕ → Bool) → ℕ → ℕ → Option ℕ → Type 0
 First test start end r = MatchOption r ((v : ℕ) → start ≤ v → v < end → test v ≡ false) (λ v. FirstAt test start end v)
+
+-- a test of what is not in a set
+abbrev pub outside : (ℕ → Bool) → (ℕ → Bool) → ℕ → Bool
+outside set test v = test v && not (set v)
 
 -- whether an edge leads from a node to v, or whether v is a source where no node is given
 abbrev pub leads : Problem → Option ℕ → ℕ → Bool

@@ -1,8 +1,9 @@
 -- What the ticks and the places say while a search goes on.
-use Rattle.std.specs.Prelude.{◌≡◌, ℕ, zero, suc, ◌+◌, ◌-◌, ◌<◌, ◌≤◌, Bool, true, false, List, length, Ok, Err, Option, Result, MatchOption, ◌≢◌, slice_index, slice_index_or}
+use Rattle.std.specs.Prelude.{◌≡◌, ℕ, zero, suc, ◌+◌, ◌-◌, ◌<◌, ◌≤◌, Bool, true, false, not, ◌==◌, List, [], ◌∷◌, length, Ok, Err, Option, Result, MatchOption, ◌≢◌, slice_index, slice_index_or}
 use Rattle.lent.specs.declared.Cleared.{Cleared}
 use Rattle.lent.specs.declared.List.{List as Places}
-use Rattle.search.specs.Problem.{Problem, Way, Nowhere, Least}
+use Rattle.search.specs.Problem.{Problem, leads, Way, Nowhere, Least}
+use Rattle.search.specs.Trails.{Trail, Before, NotAfter, Foremost}
 use Rattle.search.specs.declared.Place.{Place}
 use Rattle.search.specs.declared.TooShort.{TooShort}
 
@@ -13,6 +14,15 @@ blank = record { node = 0; parent = 0; depth = 0 }
 -- the place at an index
 abbrev pub at : List Place → ℕ → Place
 at ps i = slice_index_or ps i blank
+
+-- the nodes of a place and of d places before it, each the parent of the one in front
+abbrev pub back : List Place → ℕ → ℕ → List ℕ
+back ps zero i = (at ps i).node ∷ []
+back ps (suc d) i = (at ps i).node ∷ back ps d (at ps i).parent
+
+-- the walk to a place, by its nodes: its parents lead back along it
+abbrev pub way_back : List Place → ℕ → List ℕ
+way_back ps i = back ps (at ps i).depth i
 
 -- how many of the first n numbers are ticked
 abbrev pub total : List ℕ → ℕ → ℕ
@@ -59,6 +69,7 @@ pub record Queue (p : Problem) (ts : List ℕ) (ps : List Place) (used : ℕ) : 
   pub marks : (v : ℕ) → v < p.nodes → slice_index ts v ≤ 1
   pub counted : used ≡ total ts p.nodes
   pub placed : (v : ℕ) → v < p.nodes → slice_index ts v ≡ 1 → (i : ℕ) × (i < used) × ((at ps i).node ≡ v)
+  pub ticked : (i : ℕ) → i < used → slice_index ts (at ps i).node ≡ 1
   pub sound : (i : ℕ) → i < used → Sound p ps i (at ps i)
   pub rising : (i j : ℕ) → i ≤ j → j < used → (at ps i).depth ≤ (at ps j).depth
 
@@ -84,11 +95,35 @@ pub record Went (p : Problem) (ts ts' : List ℕ) (ps ps' : List Place) (used mo
   pub within : Within ps' more d
   pub covers : (v : ℕ) → v < p.nodes → S v → At ps' more v d
 
+-- the place q is at the depth d, reached from the place `head`, of a node below `bound`
+pub record Child (head d bound : ℕ) (q : Place) : Type 0 where
+  pub parent : q.parent ≡ head
+  pub depth : q.depth ≡ d
+  pub below : q.node < bound
+
+-- the places from `used` up to `more` are in rising order of the nodes below `bound` that had no place and to which `from` leads
+pub record Children (p : Problem) (from : Option ℕ) (parent d : ℕ) (ps : List Place) (used more bound : ℕ) : Type 0 where
+  pub each : (i : ℕ) → used ≤ i → i < more → Child parent d bound (at ps i)
+  pub rising : (i j : ℕ) → used ≤ i → i < j → j < more → (at ps i).node < (at ps j).node
+  pub fresh : (i j : ℕ) → i < used → used ≤ j → j < more → (at ps i).node ≢ (at ps j).node
+  pub all : (v : ℕ) → v < bound → leads p from v ≡ true → (i : ℕ) × (i < more) × ((at ps i).node ≡ v)
+
+-- all of them, or those up to the first target
+abbrev pub Born : Problem → Option ℕ → ℕ → ℕ → List Place → ℕ → ℕ → Bool → Type 0
+Born p from parent d ps used more true = Children p from parent d ps used more ((at ps (more - 1)).node + 1) × Open p ps (more - 1)
+Born p from parent d ps used more false = Children p from parent d ps used more p.nodes
+
 -- what a search may go on from, to reach places of depth d
 pub record Ready (p : Problem) (ts : List ℕ) (ps : List Place) (used d : ℕ) : Type 0 where
   pub queue : Queue p ts ps used
   pub «open» : Open p ps used
   pub within : Within ps used d
+
+-- the used places of one depth stand in the order of the walks to them, each of which is the first; the places before `head` are parents
+pub record Ordered (p : Problem) (ps : List Place) (used head : ℕ) : Type 0 where
+  pub order : (i j : ℕ) → i < j → j < used → (at ps i).depth ≡ (at ps j).depth → Before (way_back ps i) (way_back ps j)
+  pub first : (i : ℕ) → i < used → (vs : List ℕ) → Trail p (at ps i).node vs → length vs ≡ suc (at ps i).depth → NotAfter (way_back ps i) vs
+  pub parents : (i : ℕ) → i < used → 0 < (at ps i).depth → (at ps i).parent < head
 
 -- the places before `head` have been scanned
 pub record Spread (p : Problem) (ts : List ℕ) (ps : List Place) (used head : ℕ) : Type 0 where
@@ -98,18 +133,21 @@ pub record Spread (p : Problem) (ts : List ℕ) (ps : List Place) (used head : �
   pub reached : head ≤ used
   pub sources : (v : ℕ) → v < p.nodes → p.source v ≡ true → At ps used v 0
   pub scanned : (i : ℕ) → i < head → (v : ℕ) → v < p.nodes → p.edge (at ps i).node v ≡ true → At ps used v ((at ps i).depth + 1)
+  pub ordered : Ordered p ps used head
 
 -- no more than the first `nodes` places are written
 abbrev pub Kept : Problem → List Place → List Place → Type 0
 Kept p ps ps' = (i : ℕ) → p.nodes ≤ i → at ps' i ≡ at ps i
 
--- the place `last` ends a shortest walk from a source to a target, and the parents lead back along it
+-- the place `last` ends a shortest walk from a source to a target, and the parents lead back along it; no other as short comes before it
 pub record Found (p : Problem) (ps : List Place) (last : ℕ) : Type 0 where
   pub below : last < p.nodes
   pub target : p.target (at ps last).node ≡ true
   pub sound : (i : ℕ) → i ≤ last → Sound p ps i (at ps i)
   pub way : Way p (at ps last).node (at ps last).depth
   pub least : Least p (at ps last).depth
+  pub trail : Trail p (at ps last).node (way_back ps last)
+  pub first : Foremost p (way_back ps last)
 
 -- the place that was found, or none where no walk leads from a source to a target
 abbrev pub Outcome : Problem → List Place → Option ℕ → Type 0
@@ -132,6 +170,14 @@ Stepped p t t' q q' d S false = Went p t.bytes.now t'.bytes.now q.items.now q'.i
 -- the memory is still the one that was lent
 abbrev pub Lent : Cleared → Cleared → Places Place → Places Place → Type 0
 Lent t t' q q' = (t'.bytes.ghost_name ≡ t.bytes.ghost_name) × (q'.items.ghost_name ≡ q.items.ghost_name)
+
+-- a set of nodes has just the ticked ones
+abbrev pub Ticked : Problem → Cleared → (ℕ → Bool) → Type 0
+Ticked p t set = (v : ℕ) → v < p.nodes → set v ≡ not (slice_index t.bytes.now v == 0)
+
+-- the place q was written behind the others
+abbrev pub Pushed : Places Place → Places Place → Place → Type 0
+Pushed l l' q = (l'.len ≡ l.len + 1) × (at l'.items.now l.len ≡ q)
 
 -- a search ended at its last place, or nowhere
 abbrev pub Ended : Problem → Places Place → Bool → Type 0

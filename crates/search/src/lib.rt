@@ -2,9 +2,10 @@
 
 #![tactic(auto)]
 
-ghost use Rattle.std.specs.Prelude.{◌≡◌, ℕ, ◌+◌, ◌<◌, true, IfSome, length, replicate, slice_index};
-ghost use Rattle.search.specs.Problem.{Problem, First, leads};
-ghost use Rattle.search.specs.Queue.{at, Sound, Waiting, Stepped, Lent, Ended, Kept, Answered};
+ghost use Rattle.std.specs.Prelude.{◌≡◌, ℕ, ◌+◌, ◌<◌, Bool, true, false, ◌||◌, ◌==◌, IfSome, length, replicate, slice_index};
+ghost use Rattle.search.specs.Agreeing.{OneWalk};
+ghost use Rattle.search.specs.Problem.{Problem, First, outside, leads};
+ghost use Rattle.search.specs.Queue.{at, Sound, Waiting, Stepped, Born, Pushed, Lent, Ticked, Ended, Kept, Answered};
 
 use lent::{Cleared, List};
 
@@ -23,21 +24,34 @@ pub struct TooShort;
 
 /// A graph on the numbers below `nodes()`.
 pub trait Graph {
+    /// A set of nodes, in the form in which the graph looks for nodes outside it.
+    type Nodes: Drop;
+
     ghost problem: { Self → Problem };
+
+    /// Whether a set has a node.
+    ghost holds: { Self → Self.Nodes → ℕ → Bool };
 
     fn nodes(&self) -> u16
         ensures { result ≡ (problem self.now).nodes };
 
-    /// The first source from the number `start` on.
-    // A search asks for the next node, and not about each: a graph may know that node without a look at those before it.
-    fn next_source(&self, start: u16) -> Option<u16>
-        ensures { First (problem self.now).source start (problem self.now).nodes result };
+    fn no_nodes(&self) -> Self::Nodes
+        ensures { (v : ℕ) → v < (problem self.now).nodes → holds self.now result v ≡ false };
 
-    /// The first node from the number `start` on to which an edge leads.
+    /// Adds a node to a set.
+    fn add(&self, set: &mut Self::Nodes, node: u16)
+        ensures { (v : ℕ) → v < (problem self.now).nodes → holds self.now set.new v ≡ (v == node || holds self.now set.old v) };
+
+    /// The first source outside a set.
+    // A search asks for the next node that it has not reached, and not about each: a graph may know it without a look at the others.
+    fn first_source(&self, reached: &Self::Nodes) -> Option<u16>
+        ensures { First (outside (holds self.now reached.now) (problem self.now).source) 0 (problem self.now).nodes result };
+
+    /// The first node outside a set to which an edge leads.
     // This and `target` ask for a node: which numbers are nodes depends on the graph.
-    fn next_edge(&self, from: u16, start: u16) -> Option<u16>
+    fn first_edge(&self, from: u16, reached: &Self::Nodes) -> Option<u16>
         requires { from < (problem self.now).nodes }
-        ensures { First ((problem self.now).edge from) start (problem self.now).nodes result };
+        ensures { First (outside (holds self.now reached.now) ((problem self.now).edge from)) 0 (problem self.now).nodes result };
 
     fn target(&self, node: u16) -> bool
         requires { node < (problem self.now).nodes }
@@ -49,30 +63,35 @@ pub trait Graph {
 fn visit<G: Graph>(
     graph: &G,
     ticks: &mut Cleared<'_>,
+    reached: &mut G::Nodes,
     places: &mut List<'_, Place>,
     place: Place,
 ) -> bool
     requires ready { Waiting (G.problem graph.now) ticks.old places.old place.depth }
     requires sound { Sound (G.problem graph.now) places.old.items.now places.old.len place }
     requires fresh { slice_index ticks.old.bytes.now place.node ≡ 0 }
+    requires same { Ticked (G.problem graph.now) ticks.old (G.holds graph.now reached.old) }
     ensures lent { Lent ticks.old ticks.new places.old places.new }
     ensures stepped { Stepped (G.problem graph.now) ticks.old ticks.new places.old places.new place.depth (λ v. v ≡ place.node) result }
+    ensures same { Ticked (G.problem graph.now) ticks.new (G.holds graph.now reached.new) }
+    ensures pushed { Pushed places.old places.new place }
 {
     ticks.tick(place.node as usize);
+    graph.add(reached, place.node);
     // There is room: no node is pushed twice.
     let _ = places.push(place);
     graph.target(place.node)
 }
 
-/// The first node from the number `start` on to which an edge leads from a node, or the first source where none is given.
+/// The first node outside a set to which an edge leads from a node, or the first source where none is given.
 // No closure for the two, which `visit_all` would take: its contract would have to say for any closure what that finds.
-fn next_node<G: Graph>(graph: &G, from: Option<u16>, start: u16) -> Option<u16>
+fn next_node<G: Graph>(graph: &G, from: Option<u16>, reached: &G::Nodes) -> Option<u16>
     requires { IfSome from (λ node. node < (G.problem graph.now).nodes) }
-    ensures { First (leads (G.problem graph.now) from) start (G.problem graph.now).nodes result }
+    ensures { First (outside (G.holds graph.now reached.now) (leads (G.problem graph.now) from)) 0 (G.problem graph.now).nodes result }
 {
     match from {
-        Some(node) => graph.next_edge(node, start),
-        None => graph.next_source(start),
+        Some(node) => graph.first_edge(node, reached),
+        None => graph.first_source(reached),
     }
 }
 
@@ -80,6 +99,7 @@ fn next_node<G: Graph>(graph: &G, from: Option<u16>, start: u16) -> Option<u16>
 fn visit_all<G: Graph>(
     graph: &G,
     ticks: &mut Cleared<'_>,
+    reached: &mut G::Nodes,
     places: &mut List<'_, Place>,
     from: Option<u16>,
     parent: u16,
@@ -88,43 +108,52 @@ fn visit_all<G: Graph>(
     requires ready { Waiting (G.problem graph.now) ticks.old places.old depth }
     requires asked { IfSome from (λ node. node < (G.problem graph.now).nodes) }
     requires sound { (v : ℕ) → v < (G.problem graph.now).nodes → leads (G.problem graph.now) from v ≡ true → Sound (G.problem graph.now) places.old.items.now places.old.len (record { node = v; parent = parent; depth = depth }) }
+    requires same { Ticked (G.problem graph.now) ticks.old (G.holds graph.now reached.old) }
     ensures lent { Lent ticks.old ticks.new places.old places.new }
     ensures stepped { Stepped (G.problem graph.now) ticks.old ticks.new places.old places.new depth (λ v. leads (G.problem graph.now) from v ≡ true) result }
+    ensures same { Ticked (G.problem graph.now) ticks.new (G.holds graph.now reached.new) }
+    ensures born { Born (G.problem graph.now) from parent depth places.new.items.now places.old.len places.new.len result }
 {
-    let mut start = 0;
-    while let Some(node) = next_node(graph, from, start) {
-        if !ticks.is_ticked(usize::from(node))
-            && visit(
-                graph,
-                ticks,
-                places,
-                Place {
-                    node,
-                    parent,
-                    depth,
-                },
-            )
-        {
+    while let Some(node) = next_node(graph, from, reached) {
+        if visit(
+            graph,
+            ticks,
+            reached,
+            places,
+            Place {
+                node,
+                parent,
+                depth,
+            },
+        ) {
             return true;
         }
-        start = node + 1;
     }
     false
 }
 
 /// Visits the sources, until one is a target.
-fn start<G: Graph>(graph: &G, ticks: &mut Cleared<'_>, places: &mut List<'_, Place>) -> bool
-    requires { Waiting (G.problem graph.now) ticks.old places.old 0 }
+fn start<G: Graph>(
+    graph: &G,
+    ticks: &mut Cleared<'_>,
+    reached: &mut G::Nodes,
+    places: &mut List<'_, Place>,
+) -> bool
+    requires ready { Waiting (G.problem graph.now) ticks.old places.old 0 }
+    requires same { Ticked (G.problem graph.now) ticks.old (G.holds graph.now reached.old) }
     ensures lent { Lent ticks.old ticks.new places.old places.new }
     ensures stepped { Stepped (G.problem graph.now) ticks.old ticks.new places.old places.new 0 (λ v. (G.problem graph.now).source v ≡ true) result }
+    ensures same { Ticked (G.problem graph.now) ticks.new (G.holds graph.now reached.new) }
+    ensures born { Born (G.problem graph.now) None 0 0 places.new.items.now places.old.len places.new.len result }
 {
-    visit_all(graph, ticks, places, None, 0, 0)
+    visit_all(graph, ticks, reached, places, None, 0, 0)
 }
 
 /// Visits the nodes to which an edge leads from the place `head`, until one is a target.
 fn scan<G: Graph>(
     graph: &G,
     ticks: &mut Cleared<'_>,
+    reached: &mut G::Nodes,
     places: &mut List<'_, Place>,
     head: u16,
     from: Place,
@@ -132,22 +161,32 @@ fn scan<G: Graph>(
     requires ready { Waiting (G.problem graph.now) ticks.old places.old (from.depth + 1) }
     requires below { head < places.old.len }
     requires here { at places.old.items.now head ≡ from }
+    requires same { Ticked (G.problem graph.now) ticks.old (G.holds graph.now reached.old) }
     ensures lent { Lent ticks.old ticks.new places.old places.new }
     ensures stepped { Stepped (G.problem graph.now) ticks.old ticks.new places.old places.new (from.depth + 1) (λ v. (G.problem graph.now).edge from.node v ≡ true) result }
+    ensures same { Ticked (G.problem graph.now) ticks.new (G.holds graph.now reached.new) }
+    ensures born { Born (G.problem graph.now) (Some from.node) head (from.depth + 1) places.new.items.now places.old.len places.new.len result }
 {
     let depth = from.depth + 1;
-    visit_all(graph, ticks, places, Some(from.node), head, depth)
+    visit_all(graph, ticks, reached, places, Some(from.node), head, depth)
 }
 
 /// Visits the sources, then scans the places one after another, until a target is met or none is left.
-fn explore<G: Graph>(graph: &G, ticks: &mut Cleared<'_>, places: &mut List<'_, Place>) -> bool
-    requires { Waiting (G.problem graph.now) ticks.old places.old 0 }
+fn explore<G: Graph>(
+    graph: &G,
+    ticks: &mut Cleared<'_>,
+    reached: &mut G::Nodes,
+    places: &mut List<'_, Place>,
+) -> bool
+    requires ready { Waiting (G.problem graph.now) ticks.old places.old 0 }
+    requires same { Ticked (G.problem graph.now) ticks.old (G.holds graph.now reached.old) }
+    requires empty { places.old.len ≡ 0 }
     ensures lent { Lent ticks.old ticks.new places.old places.new }
     ensures ended { Ended (G.problem graph.now) places.new result }
     ensures sized { length ticks.new.bytes.now ≡ length ticks.old.bytes.now }
     ensures kept { Kept (G.problem graph.now) places.old.items.now places.new.items.now }
 {
-    if start(graph, ticks, places) {
+    if start(graph, ticks, reached, places) {
         return true;
     }
     // By index, since the places grow while they are gone over.
@@ -155,7 +194,7 @@ fn explore<G: Graph>(graph: &G, ticks: &mut Cleared<'_>, places: &mut List<'_, P
         let Some(from) = places.get(head as usize) else {
             return false;
         };
-        if scan(graph, ticks, places, head, from) {
+        if scan(graph, ticks, reached, places, head, from) {
             return true;
         }
     }
@@ -163,7 +202,8 @@ fn explore<G: Graph>(graph: &G, ticks: &mut Cleared<'_>, places: &mut List<'_, P
 }
 
 /// The place of a target that no shorter walk from a source reaches, or `None` where no walk leads from a source to a target.
-/// From that place the parents lead back to a source. The ticks are zero in the end, whatever they held, and of the places
+/// From that place the parents lead back to a source, along the first of the shortest walks: where another one parts from it, it
+/// has the lower node. The ticks are zero in the end, whatever they held, and of the places
 /// no more than the first `nodes()` are written.
 pub fn search<G: Graph>(
     graph: &G,
@@ -177,14 +217,21 @@ pub fn search<G: Graph>(
     let nodes = graph.nodes() as usize;
     let room = places.len();
     let mut marks = Cleared::over(ticks);
-    let mut reached = List::over(places);
+    let mut queue = List::over(places);
     if marks.len() < nodes || room < nodes {
         return Err(TooShort);
     }
+    // The ticked nodes once more, in the form in which the graph can look for others.
+    let mut reached = graph.no_nodes();
     // No second answer beside the test: the target that was met is the last place.
-    if explore(graph, &mut marks, &mut reached) {
-        Ok(Some(reached.len() - 1))
+    if explore(graph, &mut marks, &mut reached, &mut queue) {
+        Ok(Some(queue.len() - 1))
     } else {
         Ok(None)
     }
 }
+
+/// Searches find one walk, whatever memory is lent: it depends on the problem alone.
+pub fn one_walk_stands()
+    ensures { OneWalk }
+{}

@@ -2,3 +2,4 @@ pub mod Plan
 pub mod Charts
 pub mod Ways
 pub mod Sought
+pub mod Settled

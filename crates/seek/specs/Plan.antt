@@ -1,5 +1,5 @@
 -- The graph that is searched for an activity, and the way back from a place that was found.
-use Rattle.std.specs.Prelude.{ℕ, zero, suc, ◌+◌, ◌-◌, ◌*◌, max, Bool, ◌&&◌, List, Option}
+use Rattle.std.specs.Prelude.{ℕ, zero, suc, ◌+◌, ◌-◌, ◌*◌, Bool, ◌&&◌, List, Option}
 use Rattle.access.specs.Contexts.{inside}
 use Rattle.access.specs.Policy.{Meaning}
 use Rattle.verdicts.specs.Runs.{Grants}
@@ -23,9 +23,9 @@ plan kind m gs A B =
       target = target m.contexts B;
     }
 
--- the first node of a phase, from `start` on, whose context passes a test, over n contexts
-abbrev pub FirstInPhase : ℕ → (ℕ → Bool) → ℕ → ℕ → Option ℕ → Type 0
-FirstInPhase n test phase start r = First (λ v. test (context n v)) (max start (phase * n)) (phase * n + n) r
+-- the first node of a phase whose context passes a test, over n contexts
+abbrev pub FirstInPhase : ℕ → (ℕ → Bool) → ℕ → Option ℕ → Type 0
+FirstInPhase n test phase r = First (λ v. test (context n v)) (phase * n) (phase * n + n) r
 
 -- the i-th place back from a place
 abbrev pub up : List Place → ℕ → ℕ → ℕ

@@ -65,38 +65,57 @@ impl<'a, A: Activity, P: Policy> Chart<'a, A, P> {
         link.between(self.context_of(before), self.context_of(node))
     }
 
-    /// The first node from the number `start` on that is a member of a set at a phase.
-    fn first_at(&self, phase: usize, set: ContextSet, start: u16) -> Option<u16>
+    /// The first node of a phase whose context is in a set.
+    fn first_at(&self, phase: usize, set: ContextSet) -> Option<u16>
         requires { phase < A.Activity.PHASES }
-        ensures { FirstInPhase (meaning_of P.Policy.meaning self.now.moves.now.regime).contexts (member set) phase start result }
+        ensures { FirstInPhase (meaning_of P.Policy.meaning self.now.moves.now.regime).contexts (member set) phase result }
     {
-        let earlier = phase as u16 * self.contexts;
-        let context = set.first_above(start.saturating_sub(earlier))?;
+        let context = set.first_above(0)?;
         if context > self.contexts {
             return None;
         }
-        Some(earlier + context - 1)
+        Some(phase as u16 * self.contexts + context - 1)
     }
 }
 
 impl<A: Activity, P: Policy> Graph for Chart<'_, A, P> {
-    ghost use Rattle.seek.specs.Charts.{problem_of};
+    ghost use Rattle.seek.specs.Charts.{problem_of, holds};
+
+    /// The contexts of each phase; none has more than two.
+    type Nodes = [ContextSet; 2];
 
     ghost problem = { problem_of };
+
+    ghost holds = { holds };
 
     fn nodes(&self) -> u16 {
         A::PHASES as u16 * self.contexts
     }
 
-    fn next_source(&self, start: u16) -> Option<u16> {
-        self.first_at(0, self.from, start)
+    fn no_nodes(&self) -> [ContextSet; 2] {
+        [ContextSet::none(); 2]
     }
 
-    fn next_edge(&self, from: u16, start: u16) -> Option<u16> {
+    fn add(&self, set: &mut [ContextSet; 2], node: u16) {
+        let phase = self.phase_of(node);
+        // Behind the last phase there is no node.
+        if phase < set.len() {
+            set[phase] = set[phase].with(self.context_of(node));
+        }
+    }
+
+    fn first_source(&self, reached: &[ContextSet; 2]) -> Option<u16> {
+        self.first_at(0, self.from.without(reached[0]))
+    }
+
+    fn first_edge(&self, from: u16, reached: &[ContextSet; 2]) -> Option<u16> {
         let context = self.context_of(from);
         for phase in self.phase_of(from)..A::PHASES {
-            let reached = self.moves.from(context, A::link(phase));
-            if let Some(node) = self.first_at(phase, reached, start) {
+            let next = self
+                .moves
+                .from(context, A::link(phase))
+                .without(reached[phase]);
+            if let Some(node) = self.first_at(phase, next) {
                 return Some(node);
             }
         }

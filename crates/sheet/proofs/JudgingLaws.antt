@@ -1,4 +1,4 @@
--- From a judging of what a sheet holds to one of the book that stands on it.
+-- From a judging of what a sheet holds to one of the book that it shows.
 use Rattle.std.proofs.Common.{◌≡◌, ℕ, Bool, true, false, cond, not, List, [], ◌∷◌, length, Some, None, Ok, Err, Option, Result, sym, refl, ap, ◌∙◌, subst, arith}
 use Rattle.std.proofs.lemmas.Bool.{or_parts, true_from_ne_false}
 use Rattle.std.proofs.lemmas.Bool.Decides.{nat_tests}
@@ -6,7 +6,6 @@ use Rattle.access.specs.declared.context_set.ContextSet.{ContextSet}
 use Rattle.access.specs.Contexts.{inside, member, has_above, empty}
 use Rattle.access.proofs.ContextLaws.{none_above}
 use Rattle.std.specs.Option.{ok_or}
-use Rattle.access.specs.Policy.{Meaning}
 use Rattle.access.specs.Refusals.{refusal_number, first_of}
 use Rattle.access.specs.declared.refusal.Refusal.{Refusal}
 use Rattle.access.specs.declared.refusal.Refusal.TheVariants as why
@@ -22,13 +21,10 @@ use Rattle.properties.specs.declared.property.Template.TheVariants.{Integrity, C
 use Rattle.judge.specs.Judged.{forbidding, property_of, Answered}
 use Rattle.judge.specs.declared.verdict.Verdict.{Verdict}
 use Rattle.entries.specs.Entries.{in_order}
-use Rattle.entries.specs.Held.{held}
 use Rattle.entries.specs.Standing.{entry_at}
 use Rattle.sheet.specs.Book.{Book, unfit, unfit_second, short, refusal}
-use Rattle.sheet.specs.Stands.{shown, Stands}
-use Rattle.sheet.specs.Judging.{fits, standing_grants, VerdictOn, Judges}
+use Rattle.sheet.specs.Judging.{fits, AllFit, standing_grants, Judges}
 use Rattle.sheet.specs.declared.request.Request.TheVariants.{Judge}
-use Rattle.sheet.specs.declared.sheet.Sheet.{Sheet}
 
 -- only one refusal has number 12
 is_12 : (w : Refusal) → refusal_number w ≡ 12 → w ≡ why.ShortMemory
@@ -82,29 +78,22 @@ entry_parts true None e is = absurd (grind arith)
 entry_parts false o e is = absurd (grind arith)
 
 module _ (k : ℕ) (ts : List ℕ) (ps ps' : List Place) (ss ss' : List Step) where
-  -- in a book that has property k standing
-  judges : (b : Book) (p : Property) → inside 64 k ≡ true → b.properties k ≡ Some p → (r : Result Verdict Refusal)
+  -- in a book that has property k standing, whose sets are fit
+  judges : (b : Book) (p : Property) → inside 64 k ≡ true → b.properties k ≡ Some p → fits b.policy.contexts (Some p) ≡ true → (r : Result Verdict Refusal)
       → Answered b.policy (standing_grants b) (property_of p) ts ps ps' ss ss' r → Judges b k ts ps ps' ss ss' r
-  judges b p ranged stands r a = go r a
+  judges b p ranged stands fit r a = go r a
     where
       by_memory : (s : Bool) → short b.policy.contexts (length ts) (length ps) (length ss) ≡ s → refusal b (Judge k (length ts) (length ps) (length ss)) ≡ first_of ((s, why.ShortMemory) ∷ [])
       by_memory s e = rw (ranged, stands, e) refl
 
-      some_same : {q : Property} → b.properties k ≡ Some q → p ≡ q
-      some_same e = cc
-
       go : (r : Result Verdict Refusal) → Answered b.policy (standing_grants b) (property_of p) ts ps ps' ss ss' r → Judges b k ts ps ps' ss ss' r
-      go (Ok v) (suffices, told) =
-          (by_memory false (enough b.policy.contexts ts ps ss suffices), λ q is fit. subst (λ (x : Property). VerdictOn b x ss ss' v) (some_same is) (told (of_contexts b.policy.contexts p (subst (λ (x : Property). fits b.policy.contexts (Some x) ≡ true) (sym (some_same is)) fit))))
+      go (Ok v) (suffices, told) = (by_memory false (enough b.policy.contexts ts ps ss suffices), rw stands (told (of_contexts b.policy.contexts p fit)))
       go (Err w) (is, lacks, places, steps) = (by_memory true (scarce b.policy.contexts ts ps ss lacks) ∙ ap Some (sym (is_12 w is)), places, steps)
 
-  -- on a sheet that holds property k
-  pub judges_on : {P : Type 0} (meaning : P → Meaning) (sheet : Sheet P) (p : Property) (gs : List (Option Grant)) → gs ≡ in_order (held sheet.grants) 0 32 → Ok p ≡ entry_at 64 (held sheet.properties) k
-      → (r : Result Verdict Refusal) → Answered (meaning sheet.policy) (standing gs 0) (property_of p) ts ps ps' ss ss' r
-      → (b : Book) → Stands meaning b sheet → Judges b k ts ps ps' ss ss' r
-  judges_on meaning sheet p gs is stands r a b st =
-      let m : Meaning = meaning sheet.policy in
-      let parts = entry_parts (inside 64 k) (held sheet.properties k) p stands in
-      subst (λ (x : Book). Judges x k ts ps ps' ss ss' r) (sym st.shows)
-      (judges (shown meaning sheet) p parts.0 parts.1 r
-      (subst (λ (l : List (Option Grant)). Answered m (standing l 0) (property_of p) ts ps ps' ss ss' r) is a))
+  -- a property found in a book whose properties are all fit
+  pub judges_found : (b : Book) → AllFit b.policy.contexts b.properties → (p : Property) (gs : List (Option Grant)) → gs ≡ in_order b.grants 0 32 → Ok p ≡ entry_at 64 b.properties k
+      → (r : Result Verdict Refusal) → Answered b.policy (standing gs 0) (property_of p) ts ps ps' ss ss' r → Judges b k ts ps ps' ss ss' r
+  judges_found b fit p gs is found r a =
+      let parts = entry_parts (inside 64 k) (b.properties k) p found in
+      judges b p parts.0 parts.1 (subst (λ (o : Option Property). fits b.policy.contexts o ≡ true) parts.1 (fit k)) r
+      (subst (λ (l : List (Option Grant)). Answered b.policy (standing l 0) (property_of p) ts ps ps' ss ss' r) is a)

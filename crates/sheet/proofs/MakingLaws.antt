@@ -1,5 +1,5 @@
--- What a setting does to the book that stands on a sheet.
-use Rattle.std.proofs.Common.{◌≡◌, ℕ, ◌+◌, min, false, List, ◌∷◌, length, Some, None, Ok, Err, Option, sym, refl, ap, ◌∙◌, subst, add-one}
+-- What a call does to the book that a sheet shows.
+use Rattle.std.proofs.Common.{◌≡◌, ℕ, ◌+◌, min, true, false, List, ◌∷◌, length, Some, None, Ok, Err, Option, sym, refl, ap, ◌∙◌, add-one}
 use Rattle.access.specs.Policy.{Meaning}
 use Rattle.access.specs.Sound.{Sound}
 use Rattle.access.specs.Refusals.{answer, when_accepted}
@@ -7,55 +7,52 @@ use Rattle.access.specs.Setting.{setting_refusal, with_set, after_setting}
 use Rattle.access.specs.declared.operation_set.OperationSet.{OperationSet}
 use Rattle.access.specs.declared.refusal.Refusal.{Refusal}
 use Rattle.access.proofs.Settings.{answer_ok, answer_err, accepted_inside}
-use Rattle.sheet.specs.Undo.{Undoable}
-use Rattle.sheet.specs.Book.{Book, notes_full, refusal, accepted, fed}
-use Rattle.sheet.specs.Stands.{opened, shown, Stands, Serves}
+use Rattle.entries.specs.Entries.{Entries}
+use Rattle.moves.specs.declared.grant.Grant.{Grant}
+use Rattle.properties.specs.declared.property.Property.{Property}
+use Rattle.sheet.specs.Undo.{undo, undoable, change_undoable}
+use Rattle.sheet.specs.Book.{Book, notes_full, refusal, fed, one_more}
+use Rattle.sheet.specs.Shown.{opened}
 use Rattle.sheet.specs.declared.note.Note.{Note}
 use Rattle.sheet.specs.declared.request.Request.{Request}
-use Rattle.sheet.specs.declared.request.Request.TheVariants.{Set}
-use Rattle.sheet.specs.declared.sheet.Sheet.{Sheet}
-use Rattle.sheet.proofs.Undoing.{undo_noted, undoable_noted}
-
--- it is enough to show a call for the book that the sheet shows
-pub for_shown : {P R : Type 0} (meaning : P → Meaning) (tells : Option Refusal → R) (q : Request) (old new : Sheet P) (r : R)
-    → (Stands meaning (shown meaning old) old → (r ≡ tells (refusal (shown meaning old) q)) × Stands meaning (fed (shown meaning old) q) new)
-    → Serves meaning tells q old r new
-for_shown meaning tells q old new r h b st =
-    let Q : Book → Type 0 = λ x. (r ≡ tells (refusal x q)) × Stands meaning (fed x q) new in
-    subst Q (sym st.shows) (h (record { shows = refl; undoable = st.undoable }))
+use Rattle.sheet.specs.declared.request.Request.TheVariants.{Set, Withdraw}
+use Rattle.sheet.proofs.Undoing.{undo_noted, undoable_noted, undo_written}
 
 -- a call that is refused and alters nothing
-pub refused : {P : Type 0} (meaning : P → Meaning) (q : Request) (old : Sheet P) (why : Refusal) → Err why ≡ answer (refusal (shown meaning old) q) → Serves meaning answer q old (Err why) old
-refused meaning q old why told = for_shown meaning answer q old old (Err why) (λ st.
-    let r : refusal (shown meaning old) q ≡ Some why = answer_err (refusal (shown meaning old) q) why told in
-    (told, subst (λ (o : Option Refusal). Stands meaning (when_accepted o (accepted (shown meaning old) q) (shown meaning old)) old) (sym r) st))
+pub refused : (b : Book) (q : Request) (why : Refusal) → Err why ≡ answer (refusal b q) → b ≡ fed b q
+refused b q why told = let r = answer_err (refusal b q) why told in rw r refl
 
--- the refusal of a setting while there is room for a note is the policy's
-free_table : (b : Book) (s t : ℕ) (ops : OperationSet) → notes_full b.change ≡ false → refusal b (Set s t ops) ≡ setting_refusal b.policy s t ops.bits
-free_table b s t ops h = rw h refl
+-- nor does a setting that the policy refuses
+pub unaltered : (m m' : Meaning) (s t ops : ℕ) (why : Refusal) → Err why ≡ answer (setting_refusal m s t ops) → m' ≡ after_setting m s t ops → m' ≡ m
+unaltered m m' s t ops why told after = after ∙ ap (λ (o : Option Refusal). when_accepted o (with_set m s t ops) m) (answer_err (setting_refusal m s t ops) why told)
 
--- a setting is accepted while a change is open: the pair is set, counted and noted
-module _ {P : Type 0} (meaning : P → Meaning) (old : Sheet P) (s t : ℕ) (ops before : OperationSet) (p : P) (xs ys : List Note) (k : ℕ) where
-  pub noted_set : Sound (meaning old.policy)
-      → notes_full (opened old.change (meaning old.policy)) ≡ false
-      → Ok tt ≡ answer (setting_refusal (meaning old.policy) s t ops.bits) → meaning p ≡ after_setting (meaning old.policy) s t ops.bits
-      → old.change ≡ Some xs → before.bits ≡ (meaning old.policy).written s t → ys ≡ record { subject = s; target = t; before = before } ∷ xs
-      → k ≡ min (old.settings + 1) 4294967295
-      → Serves meaning answer (Set s t ops) old (Ok tt) (record { policy = p; settings = k; grants = old.grants; properties = old.properties; change = Some ys })
-  noted_set sound free told after changing stood noted counted = for_shown meaning answer (Set s t ops) old _ (Ok tt) (λ st.
-      let m : Meaning = meaning old.policy in
-      let b : Book = shown meaning old in
-      let o : setting_refusal m s t ops.bits ≡ None = answer_ok (setting_refusal m s t ops.bits) told in
-      let is : meaning p ≡ with_set m s t ops.bits = after ∙ ap (λ (q : Option Refusal). when_accepted q (with_set m s t ops.bits) m) o in
-      let r : refusal b (Set s t ops) ≡ None = free_table b s t ops free ∙ o in
-      let note : ys ≡ record { subject = s; target = t; before = record { bits = m.written s t } } ∷ xs = noted ∙ ap (λ (v : ℕ). record { subject = s; target = t; before = record { bits = v } } ∷ xs) stood in
-      let undoable : Undoable xs m = rw changing at st.undoable in
-      let new : Sheet P = record { policy = p; settings = k; grants = old.grants; properties = old.properties; change = Some ys } in
-      let Q : Option Refusal → Type 0 = λ o. (Ok tt ≡ answer o) × Stands meaning (when_accepted o (accepted b (Set s t ops)) b) new in
-      subst Q (sym r) (
-        refl,
-        record {
-          shows = rw (is, counted, note, changing, undo_noted m s t ops.bits xs, add-one (length xs)) refl;
-          undoable = rw (is, note) (undoable_noted m s t ops.bits sound (accepted_inside m s t ops.bits o) xs undoable);
-        },
-      ))
+-- withdrawing puts the copy back
+pub withdrawn : (m m' : Meaning) (c c' : Option (List Note)) (notes : List Note) (n : ℕ) (gs : Entries Grant) (ps : Entries Property) → c ≡ Some notes → c' ≡ None → m' ≡ undo notes m
+    → ◌≡◌ {A = Book} (record { policy = m'; settings = n; grants = gs; properties = ps; change = opened c' m' }) (fed (record { policy = m; settings = n; grants = gs; properties = ps; change = opened c m }) Withdraw)
+withdrawn m m' c c' notes n gs ps changing taken back = rw (changing, taken, back, undo_written notes m) refl
+
+-- a setting is accepted while there is room for a note: it is the policy's
+set_fed : (b : Book) (s t : ℕ) (ops : OperationSet) → notes_full b.change ≡ false → setting_refusal b.policy s t ops.bits ≡ None
+    → fed b (Set s t ops) ≡ record { policy = with_set b.policy s t ops.bits; settings = min (b.settings + 1) 4294967295; grants = b.grants; properties = b.properties; change = one_more b.change }
+set_fed b s t ops free o = rw (free, o) refl
+
+-- the pair is set and noted
+module _ (m m' : Meaning) (s t : ℕ) (ops before : OperationSet) (c : Option (List Note)) (xs ys : List Note) where
+  module _ (told : Ok tt ≡ answer (setting_refusal m s t ops.bits)) (after : m' ≡ after_setting m s t ops.bits) (changing : c ≡ Some xs) (stood : before.bits ≡ m.written s t) (noted : ys ≡ record { subject = s; target = t; before = before } ∷ xs) where
+    o : setting_refusal m s t ops.bits ≡ None
+    o = answer_ok (setting_refusal m s t ops.bits) told
+
+    is : m' ≡ with_set m s t ops.bits
+    is = after ∙ ap (λ (q : Option Refusal). when_accepted q (with_set m s t ops.bits) m) o
+
+    note : ys ≡ record { subject = s; target = t; before = record { bits = m.written s t } } ∷ xs
+    note = noted ∙ ap (λ (v : ℕ). record { subject = s; target = t; before = record { bits = v } } ∷ xs) stood
+
+    pub undoable_set : Sound m → change_undoable c m ≡ true → undoable ys m' ≡ true
+    undoable_set sound u = rw (is, note, undoable_noted m s t ops.bits sound (accepted_inside m s t ops.bits o) xs) (rw changing at u)
+
+    pub noted_set : (n k : ℕ) (gs : Entries Grant) (ps : Entries Property) → false ≡ notes_full (opened c m) → k ≡ min (n + 1) 4294967295
+        → ◌≡◌ {A = Book} (record { policy = m'; settings = k; grants = gs; properties = ps; change = opened (Some ys) m' }) (fed (record { policy = m; settings = n; grants = gs; properties = ps; change = opened c m }) (Set s t ops))
+    noted_set n k gs ps free counted =
+        let b : Book = record { policy = m; settings = n; grants = gs; properties = ps; change = opened c m } in
+        rw (set_fed b s t ops (sym free) o, is, counted, note, changing, undo_noted m s t ops.bits xs, add-one (length xs)) refl

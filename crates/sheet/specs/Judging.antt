@@ -10,7 +10,7 @@ use Rattle.properties.specs.declared.property.Property.{Property}
 use Rattle.judge.specs.Judged.{property_of, Judged}
 use Rattle.judge.specs.declared.verdict.Verdict.{Verdict}
 use Rattle.judge.specs.declared.verdict.Verdict.TheVariants.{Guaranteed}
-use Rattle.entries.specs.Entries.{in_order}
+use Rattle.entries.specs.Entries.{Entries, in_order}
 use Rattle.sheet.specs.Book.{Book, unfit, unfit_second, refusal}
 use Rattle.sheet.specs.declared.request.Request.TheVariants.{Judge}
 
@@ -19,9 +19,9 @@ abbrev pub fits : ℕ → Option Property → Bool
 fits n None = true
 fits n (Some p) = not (unfit n p.first || unfit_second n p.template p.second)
 
--- a book whose properties are all fit
-abbrev pub Fit : Book → Type 0
-Fit b = (k : ℕ) → fits b.policy.contexts (b.properties k) ≡ true
+-- properties that are all fit
+abbrev pub AllFit : ℕ → Entries Property → Type 0
+AllFit n f = (k : ℕ) → fits n (f k) ≡ true
 
 -- the grants that stand in a book, with their numbers
 abbrev pub standing_grants : Book → Grants
@@ -33,8 +33,12 @@ VerdictOn b p ss ss' v =
     Judged b.policy (standing_grants b) (property_of p) ss ss' v
     × ((v ≡ Guaranteed) ↔ Holds b.policy (standing_grants b) (property_of p))
 
--- judging property k: refused as the book has it, the places and the steps as before; else a verdict on the property, where its
--- sets are fit
+-- the same on the property that stands
+abbrev pub VerdictOnEntry : Book → Option Property → List Step → List Step → Verdict → Type 0
+VerdictOnEntry b None ss ss' v = ⊥
+VerdictOnEntry b (Some p) ss ss' v = VerdictOn b p ss ss' v
+
+-- judging property k: refused as the book has it, the places and the steps as before; else a verdict on the property
 abbrev pub Judges : Book → ℕ → List ℕ → List Place → List Place → List Step → List Step → Result Verdict Refusal → Type 0
-Judges b k ts ps ps' ss ss' (Ok v) = (refusal b (Judge k (length ts) (length ps) (length ss)) ≡ None) × ((p : Property) → b.properties k ≡ Some p → fits b.policy.contexts (Some p) ≡ true → VerdictOn b p ss ss' v)
+Judges b k ts ps ps' ss ss' (Ok v) = (refusal b (Judge k (length ts) (length ps) (length ss)) ≡ None) × VerdictOnEntry b (b.properties k) ss ss' v
 Judges b k ts ps ps' ss ss' (Err why) = (refusal b (Judge k (length ts) (length ps) (length ss)) ≡ Some why) × (ps' ≡ ps) × (ss' ≡ ss)

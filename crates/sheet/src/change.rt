@@ -1,5 +1,7 @@
 //! A change is opened, and adopted.
-ghost use Rattle.sheet.specs.Stands.{Serves, handed, spent};
+ghost use Rattle.std.specs.Prelude.{◌≡◌};
+ghost use Rattle.sheet.specs.Book.{refusal, fed};
+ghost use Rattle.sheet.specs.Shown.{shown, handed, spent};
 ghost use Rattle.sheet.specs.declared.request.Request.TheVariants.{Open, Adopt};
 
 use crate::notes::Notes;
@@ -21,7 +23,8 @@ pub struct Undecided {
 impl<P: Policy> Sheet<P> {
     /// Opens a change: settings are noted from now on.
     pub fn open(&mut self) -> Result<Change, Refusal>
-        ensures { Serves P.Policy.meaning handed Open self.old result self.new }
+        ensures told { result ≡ handed (refusal (shown self.old) Open) }
+        ensures done { shown self.new ≡ fed (shown self.old) Open }
     {
         if self.change.is_some() {
             return Err(Refusal::OpenAlready);
@@ -32,7 +35,8 @@ impl<P: Policy> Sheet<P> {
 
     /// Ends a change and keeps its settings.
     pub fn adopt(&mut self, change: Change) -> Result<(), Undecided>
-        ensures { Serves P.Policy.meaning (spent change) Adopt self.old result self.new }
+        ensures told { result ≡ spent change (refusal (shown self.old) Adopt) }
+        ensures done { shown self.new ≡ fed (shown self.old) Adopt }
     {
         if self.change.take().is_none() {
             return Err(Undecided {

@@ -1,8 +1,8 @@
 //! Grants and properties are entered and struck.
 ghost use Rattle.std.specs.Prelude.{◌≡◌};
 ghost use Rattle.access.specs.Refusals.{answer};
-ghost use Rattle.sheet.specs.Book.{refusal, unfit, unfit_second};
-ghost use Rattle.sheet.specs.Stands.{Serves, shown};
+ghost use Rattle.sheet.specs.Book.{refusal, fed, unfit, unfit_second};
+ghost use Rattle.sheet.specs.Shown.{shown};
 ghost use Rattle.sheet.specs.declared.request.Request.TheVariants.{EnterGrant, StrikeGrant, EnterProperty, StrikeProperty};
 
 use crate::sheet::Sheet;
@@ -34,7 +34,7 @@ fn is_unfit_second(contexts: u16, template: Template, set: ContextSet) -> bool
 impl<P: Policy> Sheet<P> {
     /// Checks that a grant can be entered.
     fn check_grant(&self, number: u16, grant: Grant) -> Result<(), Refusal>
-        ensures { result ≡ answer (refusal (shown P.Policy.meaning self.now) (EnterGrant number grant)) }
+        ensures { result ≡ answer (refusal (shown self.now) (EnterGrant number grant)) }
     {
         self.grants.vacant(number)?;
         if grant.operations.has_unknown() || grant.operations.is_empty() {
@@ -48,7 +48,8 @@ impl<P: Policy> Sheet<P> {
     }
 
     pub fn enter_grant(&mut self, number: u16, grant: Grant) -> Result<(), Refusal>
-        ensures { Serves P.Policy.meaning answer (EnterGrant number grant) self.old result self.new }
+        ensures told { result ≡ answer (refusal (shown self.old) (EnterGrant number grant)) }
+        ensures done { shown self.new ≡ fed (shown self.old) (EnterGrant number grant) }
     {
         self.check_grant(number, grant)?;
         self.grants.put(number, Some(grant));
@@ -56,14 +57,15 @@ impl<P: Policy> Sheet<P> {
     }
 
     pub fn strike_grant(&mut self, number: u16) -> Result<(), Refusal>
-        ensures { Serves P.Policy.meaning answer (StrikeGrant number) self.old result self.new }
+        ensures told { result ≡ answer (refusal (shown self.old) (StrikeGrant number)) }
+        ensures done { shown self.new ≡ fed (shown self.old) (StrikeGrant number) }
     {
         self.grants.strike(number)
     }
 
     /// Checks that a property can be entered.
     fn check_property(&self, number: u16, property: Property) -> Result<(), Refusal>
-        ensures { result ≡ answer (refusal (shown P.Policy.meaning self.now) (EnterProperty number property)) }
+        ensures { result ≡ answer (refusal (shown self.now) (EnterProperty number property)) }
     {
         self.properties.vacant(number)?;
         let n = self.policy.contexts();
@@ -78,7 +80,8 @@ impl<P: Policy> Sheet<P> {
 
     // Like `enter_grant` but for the test and the table: as one function of both, it would be as long as this.
     pub fn enter_property(&mut self, number: u16, property: Property) -> Result<(), Refusal>
-        ensures { Serves P.Policy.meaning answer (EnterProperty number property) self.old result self.new }
+        ensures told { result ≡ answer (refusal (shown self.old) (EnterProperty number property)) }
+        ensures done { shown self.new ≡ fed (shown self.old) (EnterProperty number property) }
     {
         self.check_property(number, property)?;
         self.properties.put(number, Some(property));
@@ -86,7 +89,8 @@ impl<P: Policy> Sheet<P> {
     }
 
     pub fn strike_property(&mut self, number: u16) -> Result<(), Refusal>
-        ensures { Serves P.Policy.meaning answer (StrikeProperty number) self.old result self.new }
+        ensures told { result ≡ answer (refusal (shown self.old) (StrikeProperty number)) }
+        ensures done { shown self.new ≡ fed (shown self.old) (StrikeProperty number) }
     {
         self.properties.strike(number)
     }

@@ -2,8 +2,7 @@
 ghost use Rattle.std.specs.Prelude.{◌≡◌, length, replicate};
 ghost use Rattle.entries.specs.Entries.{in_order};
 ghost use Rattle.entries.specs.Held.{held};
-ghost use Rattle.sheet.specs.Book.{Book};
-ghost use Rattle.sheet.specs.Stands.{Stands};
+ghost use Rattle.sheet.specs.Shown.{shown};
 ghost use Rattle.sheet.specs.Judging.{Judges};
 
 use crate::sheet::Sheet;
@@ -50,7 +49,7 @@ impl<'a, P: Policy> Judging<'a, P> {
         places: &mut [Place],
         steps: &mut [Step],
     ) -> Result<Verdict, Refusal>
-        ensures answer { (b : Book) → Stands P.Policy.meaning b self.now.sheet.now → Judges b number ticks.old places.old places.new steps.old steps.new result }
+        ensures answer { Judges (shown self.now.sheet.now) number ticks.old places.old places.new steps.old steps.new result }
         ensures ticks { ticks.new ≡ replicate (length ticks.old) 0 }
     {
         match self.sheet.properties.standing(number) {
@@ -72,7 +71,7 @@ impl<P: Policy> Sheet<P> {
         places: &mut [Place],
         steps: &mut [Step],
     ) -> Result<Verdict, Refusal>
-        ensures answer { (b : Book) → Stands P.Policy.meaning b self.now → Judges b number ticks.old places.old places.new steps.old steps.new result }
+        ensures answer { Judges (shown self.now) number ticks.old places.old places.new steps.old steps.new result }
         ensures ticks { ticks.new ≡ replicate (length ticks.old) 0 }
     {
         Judging::of(self).judge(number, ticks, places, steps)

@@ -1,9 +1,9 @@
 //! Pairs are set, and the settings of a change withdrawn.
-ghost use Rattle.std.specs.Prelude.{◌≡◌};
+ghost use Rattle.std.specs.Prelude.{◌≡◌, true};
 ghost use Rattle.access.specs.Refusals.{answer};
-ghost use Rattle.sheet.specs.Undo.{undo, Undoable};
-ghost use Rattle.sheet.specs.Book.{notes_full};
-ghost use Rattle.sheet.specs.Stands.{Serves, opened, spent, with_full_notes};
+ghost use Rattle.sheet.specs.Undo.{undo, undoable};
+ghost use Rattle.sheet.specs.Book.{notes_full, refusal, fed};
+ghost use Rattle.sheet.specs.Shown.{shown, spent, with_full_notes};
 ghost use Rattle.sheet.specs.declared.request.Request.TheVariants.{Set, Withdraw};
 
 use crate::change::{Change, Undecided};
@@ -17,7 +17,8 @@ use access::refusal::Refusal;
 
 /// Puts back every set that was noted, the latest first.
 fn put_back<P: Policy>(policy: &mut P, mut notes: Notes)
-    ensures { Undoable notes (P.Policy.meaning policy.old) → P.Policy.meaning policy.new ≡ undo notes (P.Policy.meaning policy.old) }
+    requires { undoable notes (P.Policy.meaning policy.old) ≡ true }
+    ensures { P.Policy.meaning policy.new ≡ undo notes (P.Policy.meaning policy.old) }
 {
     while let Some(note) = notes.take_latest() {
         // Never refused: it returns to what stood before.
@@ -28,14 +29,14 @@ fn put_back<P: Policy>(policy: &mut P, mut notes: Notes)
 impl<P: Policy> Sheet<P> {
     /// Whether the open change has no room for one note more.
     fn is_full(&self) -> bool
-        ensures { result ≡ notes_full (opened self.now.change (P.Policy.meaning self.now.policy)) }
+        ensures { result ≡ notes_full (shown self.now).change }
     {
         self.change.as_ref().is_some_and(Notes::are_full)
     }
 
     /// Why a setting is refused while the open change has no room for one note more.
     fn full_refusal(&self, subject: u16, target: u16, operations: OperationSet) -> Refusal
-        ensures { result ≡ with_full_notes (P.Policy.meaning self.now.policy) subject target operations.bits }
+        ensures { result ≡ with_full_notes (shown self.now).policy subject target operations.bits }
     {
         let n = self.policy.contexts();
         if !is_within(n, subject) || !is_within(n, target) {
@@ -54,7 +55,8 @@ impl<P: Policy> Sheet<P> {
         target: u16,
         operations: OperationSet,
     ) -> Result<(), Refusal>
-        ensures { Serves P.Policy.meaning answer (Set subject target operations) self.old result self.new }
+        ensures told { result ≡ answer (refusal (shown self.old) (Set subject target operations)) }
+        ensures done { shown self.new ≡ fed (shown self.old) (Set subject target operations) }
     {
         if self.is_full() {
             return Err(self.full_refusal(subject, target, operations));
@@ -75,7 +77,8 @@ impl<P: Policy> Sheet<P> {
     /// Ends a change and puts back every set that it replaced, the latest first.
     // Like `adopt` at first: a contract of what both have would tell of the change, the token and the rest of the sheet, each way.
     pub fn withdraw(&mut self, change: Change) -> Result<(), Undecided>
-        ensures { Serves P.Policy.meaning (spent change) Withdraw self.old result self.new }
+        ensures told { result ≡ spent change (refusal (shown self.old) Withdraw) }
+        ensures done { shown self.new ≡ fed (shown self.old) Withdraw }
     {
         let Some(notes) = self.change.take() else {
             return Err(Undecided {

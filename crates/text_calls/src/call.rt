@@ -1,8 +1,7 @@
 //! The lines of a policy text that call a sheet.
 ghost use Rattle.std.specs.Prelude.{◌≡◌, option_map};
 ghost use Rattle.words.specs.Left.{seen, left};
-ghost use Rattle.sheet.specs.Book.{Book};
-ghost use Rattle.sheet.specs.Stands.{Stands};
+ghost use Rattle.sheet.specs.Shown.{shown};
 ghost use Rattle.text_calls.specs.Calls.{grant_in, property_in, second_in, setting_call, grant_call, property_call};
 ghost use Rattle.text_calls.specs.Called.{Answers, flaw_of};
 
@@ -50,7 +49,7 @@ pub fn add<P: Policy>(
     target: Word<'_>,
     added: Words<'_>,
 ) -> Result<(), Flaw>
-    ensures { (b : Book) → Stands P.Policy.meaning b sheet.old → Answers P.Policy.meaning b (setting_call names.now b (seen subject.entry) (seen target.entry) (left added.entry)) result sheet.new }
+    ensures { Answers (shown sheet.old) (setting_call names.now (shown sheet.old) (seen subject.entry) (seen target.entry) (left added.entry)) result (shown sheet.new) }
 {
     let subject = context(names, subject)?;
     let target = context(names, target)?;
@@ -86,7 +85,7 @@ pub fn enter_grant<P: Policy>(
     targets: Word<'_>,
     granted: Words<'_>,
 ) -> Result<(), Flaw>
-    ensures { (b : Book) → Stands P.Policy.meaning b sheet.old → Answers P.Policy.meaning b (grant_call names.now (seen as_number.entry) (seen subjects.entry) (seen targets.entry) (left granted.entry)) result sheet.new }
+    ensures { Answers (shown sheet.old) (grant_call names.now (seen as_number.entry) (seen subjects.entry) (seen targets.entry) (left granted.entry)) result (shown sheet.new) }
 {
     let number = number(as_number)?;
     let grant = grant_of(names, subjects, targets, granted)?;
@@ -120,7 +119,7 @@ pub fn enter_property<P: Policy>(
     first: Word<'_>,
     second: Option<Word<'_>>,
 ) -> Result<(), Flaw>
-    ensures { (b : Book) → Stands P.Policy.meaning b sheet.old → Answers P.Policy.meaning b (property_call names.now (seen as_number.entry) (seen of_template.entry) (seen first.entry) (option_map seen second.entry)) result sheet.new }
+    ensures { Answers (shown sheet.old) (property_call names.now (seen as_number.entry) (seen of_template.entry) (seen first.entry) (option_map seen second.entry)) result (shown sheet.new) }
 {
     let number = number(as_number)?;
     let property = property_of(names, of_template, first, second)?;

@@ -1,5 +1,5 @@
 -- A property that stands is reported, and parts make the report.
-use Rattle.std.proofs.Common.{◌≡◌, ℕ, ◌≤◌, true, false, List, [], ◌++◌, length, take, drop, is_some, Some, None, Ok, Err, IsOk, OnOk, Option, Result, refl, sym, ap, ◌∙◌, subst, arith}
+use Rattle.std.proofs.Common.{◌≡◌, ℕ, ◌≤◌, true, false, List, [], ◌++◌, length, take, drop, is_some, None, Ok, Err, IsOk, OnOk, Option, Result, refl, sym, ap, ◌∙◌, subst, arith}
 use Rattle.std.proofs.lemmas.Bool.Decides.{nat_tests}
 use Rattle.std.proofs.lemmas.List.{length-append, append-nil, append_assoc}
 use Rattle.std.proofs.Math.Seq.{take-append_seam}
@@ -9,7 +9,6 @@ use Rattle.access.specs.Contexts.{inside}
 use Rattle.access.specs.declared.refusal.Refusal.{Refusal}
 use Rattle.search.specs.declared.Place.{Place}
 use Rattle.moves.specs.declared.step.Step.{Step}
-use Rattle.properties.specs.declared.property.Property.{Property}
 use Rattle.sheet.specs.Book.{Book, short}
 use Rattle.report.specs.Parts.{part}
 use Rattle.report.specs.Reporting.{reporting_refusal, Reports, NoneAbove, IsNext}
@@ -31,18 +30,14 @@ module _ (b : Book) (k : ℕ) (names : List (List ℕ)) (ticks : ℕ) (ps ps' : 
 
   -- its part stands in front of the memory
   pub is_part : (n : ℕ) → Reports b k names ticks ps ps' ss ss' ms ms' (Ok n) → (n ≤ length ms') × IsPart b names k (take n ms')
-  is_part n h = go (b.properties k) refl stands
-    where
-      go : (o : Option Property) → b.properties k ≡ o → is_some o ≡ true → (n ≤ length ms') × IsPart b names k (take n ms')
-      go (Some p) is some =
-          let told = h.1 p is in
-          let bytes = part k told.verdict ss' names in
-          let w : ms' ≡ bytes ++ drop n ms = told.in_front.written in
-          let count : n ≡ length bytes = told.in_front.all in (
-            let l = ap length w ∙ length-append bytes (drop n ms) in omega arith,
-            record { property = p; stands = is; verdict = told.verdict; lent = ss; steps = ss'; right = told.right; says = rw (w, count) (take-append_seam bytes _) },
-          )
-      go None is none = absurd (grind arith)
+  is_part n h =
+      let told = h.1 in
+      let bytes = part k told.verdict ss' names in
+      let w : ms' ≡ bytes ++ drop n ms = told.in_front.written in
+      let count : n ≡ length bytes = told.in_front.all in (
+        let l = ap length w ∙ length-append bytes (drop n ms) in omega arith,
+        record { verdict = told.verdict; lent = ss; steps = ss'; right = told.right; says = rw (w, count) (take-append_seam bytes _) },
+      )
 
 -- what follows of a success
 pub on_ok : {T E A B : Type 0} (r : Result T E) → (A → B) → OnOk r A → OnOk r B

@@ -1,11 +1,10 @@
 -- What is printed of a policy text.
-use Rattle.std.specs.Prelude.{◌≡◌, ℕ, List, [], ◌++◌, codes, Some, Ok, Err, Option, Result}
+use Rattle.std.specs.Prelude.{◌≡◌, ℕ, List, [], ◌++◌, codes, Ok, Err, Option, Result}
 use Rattle.std.specs.Io.KnownBytes.{Appends}
 use Rattle.moves.specs.declared.step.Step.{Step}
-use Rattle.properties.specs.declared.property.Property.{Property}
 use Rattle.judge.specs.declared.verdict.Verdict.{Verdict}
 use Rattle.sheet.specs.Book.{Book}
-use Rattle.sheet.specs.Judging.{VerdictOn}
+use Rattle.sheet.specs.Judging.{VerdictOnEntry}
 use Rattle.report.specs.Parts.{part}
 use Rattle.report.specs.Reporting.{NoneAbove, IsNext}
 use Rattle.policy_text.specs.Faults.{fault_words}
@@ -14,12 +13,10 @@ use Rattle.policy_text.specs.declared.fault.Fault.{Fault}
 
 -- bytes are the part of property k: some verdict on it is right, and they say it
 pub record IsPart (b : Book) (names : List (List ℕ)) (k : ℕ) (bytes : List ℕ) : Type 0 where
-  pub property : Property
-  pub stands : b.properties k ≡ Some property
   pub verdict : Verdict
   pub lent : List Step
   pub steps : List Step
-  pub right : VerdictOn b property lent steps verdict
+  pub right : VerdictOnEntry b (b.properties k) lent steps verdict
   pub says : bytes ≡ part k verdict steps names
 
 -- bytes are the report of the properties above a number: their parts by rising number

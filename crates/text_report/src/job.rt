@@ -2,11 +2,11 @@
 ghost use Rattle.std.specs.Prelude.{◌≡◌, ℕ, true, List, length, is_some, is_ok, OnOk, IfOk};
 ghost use Rattle.access.specs.Contexts.{inside};
 ghost use Rattle.std.specs.Io.KnownBytes.{Appends};
-ghost use Rattle.sheet.specs.Judging.{Fit};
-ghost use Rattle.sheet.specs.Stands.{shown, Stands};
+ghost use Rattle.sheet.specs.Shown.{shown};
 ghost use Rattle.policy_text.specs.Texts.{text_read};
 ghost use Rattle.text_report.specs.Output.{IsPart, Written, Prints};
 ghost use Rattle.text_report.specs.Lent.{Lent};
+ghost use Rattle.text_report.specs.OneReport.{OneReport};
 
 use access::operation::Operation;
 use access::policy::Policy;
@@ -35,10 +35,9 @@ fn write_part<P: Policy, W: Write>(
     memory: &mut [u8],
     out: &mut W,
 ) -> io::Result<()>
-    requires sheet { Stands P.Policy.meaning (shown P.Policy.meaning judging.now.sheet.now) judging.now.sheet.now × Fit (shown P.Policy.meaning judging.now.sheet.now) }
     requires lent { Lent (length ticks.old) (length places.old) (length steps.old) (length memory.old) }
-    requires property { (inside 64 number ≡ true) × (is_some ((shown P.Policy.meaning judging.now.sheet.now).properties number) ≡ true) }
-    ensures { OnOk result ((bytes : List ℕ) × Appends (W.contents out.old) (W.contents out.new) bytes × IsPart (shown P.Policy.meaning judging.now.sheet.now) names.now number bytes) }
+    requires property { (inside 64 number ≡ true) × (is_some ((shown judging.now.sheet.now).properties number) ≡ true) }
+    ensures { OnOk result ((bytes : List ℕ) × Appends (W.contents out.old) (W.contents out.new) bytes × IsPart (shown judging.now.sheet.now) names.now number bytes) }
 {
     let len = report_property(judging, names, number, ticks, places, steps, memory).unwrap();
     out.write_all(&memory[..len])
@@ -54,9 +53,8 @@ fn write_parts<P: Policy, W: Write>(
     memory: &mut [u8],
     out: &mut W,
 ) -> io::Result<()>
-    requires sheet { Stands P.Policy.meaning (shown P.Policy.meaning judging.now.sheet.now) judging.now.sheet.now × Fit (shown P.Policy.meaning judging.now.sheet.now) }
-    requires lent { Lent (length ticks.old) (length places.old) (length steps.old) (length memory.old) }
-    ensures { OnOk result (Written (shown P.Policy.meaning judging.now.sheet.now) names.now (W.contents out.old) (W.contents out.new)) }
+    requires { Lent (length ticks.old) (length places.old) (length steps.old) (length memory.old) }
+    ensures { OnOk result (Written (shown judging.now.sheet.now) names.now (W.contents out.old) (W.contents out.new)) }
 {
     let mut after = 0;
     while let Some(number) = next_property(judging, after) {
@@ -68,8 +66,7 @@ fn write_parts<P: Policy, W: Write>(
 
 /// Writes the report of a sheet, one part at a time.
 fn write_report<P: Policy, W: Write>(sheet: &Sheet<P>, names: &Names, out: &mut W) -> io::Result<()>
-    requires { Stands P.Policy.meaning (shown P.Policy.meaning sheet.now) sheet.now × Fit (shown P.Policy.meaning sheet.now) }
-    ensures { OnOk result (Written (shown P.Policy.meaning sheet.now) names.now (W.contents out.old) (W.contents out.new)) }
+    ensures { OnOk result (Written (shown sheet.now) names.now (W.contents out.old) (W.contents out.new)) }
 {
     let unwritten = Step {
         subject: 0,
@@ -108,3 +105,8 @@ pub fn judge_text<W: Write>(text: &[u8], out: &mut W) -> io::Result<bool>
         }
     }
 }
+
+/// A text has one report: whoever prints it prints the same bytes.
+pub fn one_report_stands()
+    ensures { OneReport }
+{}

@@ -11,3 +11,4 @@ pub mod Decided
 pub mod Lowest
 pub mod Exists
 pub mod Judged
+pub mod Shown

@@ -149,9 +149,9 @@ fn print_answer(rt: &impl Print, answer: &Answer) -> io::Result<()> {
         Answer::Accepted => println!(rt; " accepted"),
         Answer::Refused(why) => println!(rt; " refused, number {}: {why}", u8::from(*why)),
         Answer::Guaranteed => println!(rt; " guaranteed"),
-        Answer::Broken { steps } => {
-            println!(rt; " broken, in {} steps", steps.len())?;
-            for step in steps.iter() {
+        Answer::Broken { steps, count } => {
+            println!(rt; " broken, in {count} steps")?;
+            for step in steps.iter().take(*count) {
                 print_step(rt, *step)?;
             }
             Ok(())
@@ -179,10 +179,9 @@ pub(crate) fn show(rt: &impl Print, alloc: Global, controller: Pile) -> io::Resu
     for (_, request) in named.iter() {
         requests.push(*request)?;
     }
-    let outcome = replay(alloc, controller, &requests);
-    let served = outcome.served;
-    let printed = print_answers(rt, &named, &outcome.answers);
-    let _ = outcome.close();
-    printed?;
-    Ok(served?)
+    let mut answers = vec![in alloc; Answer::Accepted; requests.len()]?;
+    let session = replay(controller, &requests, &mut answers);
+    let printed = print_answers(rt, &named, &answers);
+    let _ = session.close();
+    printed
 }

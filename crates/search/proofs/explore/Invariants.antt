@@ -1,5 +1,5 @@
 use Rattle.std.proofs.Common.{◌≡◌, length}
-use Rattle.search.specs.Queue.{Spread, Lent, Kept}
+use Rattle.search.specs.Queue.{Spread, Lent, Ticked, Kept}
 use Rattle.search.proofs.explore.Given as goal
 
 abbrev pub invariant-loop-head : goal.invariant-loop-head
@@ -8,3 +8,4 @@ invariant-loop-head g l =
     × Lent l.fn.ticks l.ticks l.fn.places l.places
     × (length l.ticks.bytes.now ≡ length l.fn.ticks.bytes.now)
     × Kept (g.G.Graph.problem l.graph) l.fn.places.items.now l.places.items.now
+    × Ticked (g.G.Graph.problem l.graph) l.ticks (g.G.Graph.holds l.graph l.reached)

@@ -1,15 +1,16 @@
-use Rattle.std.proofs.Common.{◌≡◌, refl, sym, ◌∙◌}
-use Rattle.std.proofs.Math.Seq.{take-append_seam}
-use Rattle.replay.specs.Replies.{reply_of}
-use Rattle.replay.proofs.Judgings.{reply_to, judging_over}
-use Rattle.replay.proofs.judging.judge.Goals.{in-Ok-Guaranteed, in-Ok-Broken, in-Err}
+use Rattle.std.proofs.Common.{◌∙◌, sym, subst, arith}
+use Rattle.std.proofs.lemmas.List.{length-take-le}
+use Rattle.sheet.specs.Shown.{shown}
+use Rattle.sheet.specs.declared.request.Request.TheVariants.{Judge}
+use Rattle.replay.specs.Replies.{reply_of, Right}
+use Rattle.replay.specs.declared.answer.Answer.{Answer}
+use Rattle.replay.proofs.Judgings.{judged}
 use Rattle.replay.proofs.judging.judge.Goals as goal
 
 pub returns : goal.returns
-returns g c b st fit =
-    let same : reply_of c.match-judge.result ≡ reply_to c.judge.new.steps c.judge.result = elim c.match-judge.branch [
-      | in-Ok-Guaranteed w ↦ let i = w.result-is in let j = w.in-Ok-Guaranteed.is in let k = w.in-Ok-Guaranteed.field-0-is in rw (i, j, k) refl
-      | in-Ok-Broken w ↦ let i = w.result-is in let j = w.in-Ok-Broken.is in let k = w.in-Ok-Broken.field-0-is in let l = w.truncate.ensures.items in let n = sym (c.judge.auto.steps ∙ c.deref_mut-3.ensures.len) in rw (i, j, k, l, n, take-append_seam c.judge.new.steps _) refl
-      | in-Err w ↦ let i = w.result-is in let j = w.in-Err.is in rw (i, j) refl
-    ] in
-    judging_over b _ _ c.args.number _ _ _ _ _ _ (c.deref_mut.ensures.len ∙ c.in_ok-ticks.ensures.len) (c.deref_mut-2.ensures.len ∙ c.in_ok-places.ensures.len) (c.deref_mut-3.ensures.len ∙ c.in_ok-steps.ensures.len) fit c.judge.result (c.judge.ensures.answer b st) _ same
+returns g c =
+    subst (λ (a : Answer). Right (shown c.args.sheet.now) (Judge c.args.number c.args.ticks c.args.places c.args.steps) (reply_of a)) (sym c.shown_by.ensures)
+    (judged (shown c.args.sheet.now) c.args.number c.args.ticks c.args.places c.args.steps _ _ _ _ c.judge-verdict.new.steps _ (g.met.P.Policy.sound c.args.sheet.now.policy).few_contexts
+    (length-take-le c.min.result _ (let e = c.min.ensures in omega arith) ∙ c.min.ensures)
+    (length-take-le c.min-2.result _ (let e = c.min-2.ensures in omega arith) ∙ c.min-2.ensures)
+    (length-take-le c.min-3.result _ (let e = c.min-3.ensures in omega arith) ∙ c.min-3.ensures) c.judge-verdict.auto.steps c.judge-verdict.result c.judge-verdict.ensures.answer)

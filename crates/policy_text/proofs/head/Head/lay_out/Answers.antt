@@ -1,10 +1,8 @@
-use Rattle.std.proofs.Common.{◌≡◌, min, max, length, arith, ap, ◌∙◌, subst}
+use Rattle.std.proofs.Common.{◌≡◌, min, max, length, arith, ap, ◌∙◌}
 use Rattle.record_table.specs.TableMeaning.{empty_table}
 use Rattle.layers.specs.Labels.{label_of}
 use Rattle.layers.specs.Layers.{with_levels, with_owners}
 use Rattle.sheet.specs.Book.{start}
-use Rattle.sheet.specs.Stands.{Stands}
-use Rattle.policy_text.specs.Shown.{pile_meaning}
 use Rattle.policy_text.proofs.head.Head.lay_out.Goals as goal
 
 pub returns : goal.returns
@@ -14,4 +12,4 @@ returns c = λ some.
     let table = c.new-table.ensures ∙ ap empty_table count in
     let owned = c.new-owned.ensures.meaning ∙ ap (λ m. with_owners m (label_of head.owners) head.constrained.bits) table in
     let piled = c.new.ensures.meaning ∙ ap (λ m. with_levels m (label_of head.levels)) owned in
-    subst (λ m. Stands pile_meaning (start m) c.lay_out.result) piled c.lay_out.ensures
+    c.lay_out.ensures ∙ ap start piled

@@ -10,4 +10,4 @@ returns c = λ p holds.
     let some : no_context p ≡ false = grind (arith, nat_tests) in
     let none : (length c.args.rest.now == 0) ≡ true = grind (arith, nat_tests) in
     let o = c.open.ensures p holds some in
-    rw (ended_well p c.args.rest.now none some) (record { names = ap (λ (x : Reading). x.names) (sym o.says); stands = o.stands })
+    rw (ended_well p c.args.rest.now none some) (record { names = ap (λ (x : Reading). x.names) (sym o.says); shows = o.shows })

@@ -1,8 +1,31 @@
-use Rattle.std.proofs.Common.{sym, rules}
-use Rattle.sheet.proofs.MakingLaws.{noted_set}
+use Rattle.std.proofs.Common.{◌≡◌, true, ◌∙◌, ap, sym, subst, rules}
+use Rattle.access.specs.Policy.{Meaning}
+use Rattle.sheet.specs.Undo.{change_undoable}
+use Rattle.sheet.proofs.Fitness.{as_many, after_set}
+use Rattle.sheet.proofs.MakingLaws.{unaltered, undoable_set, noted_set}
 use Rattle.sheet.proofs.sheet.Sheet.set.Goals as goal
 
-pub returns-in-Some : goal.returns-in-Some
-returns-in-Some g c =
-    noted_set g.P.Policy.meaning c.args.self.now c.args.subject c.args.target c.args.operations c.written-before.result c.set.new.self c.in-Some.notes c.add.new.self c.saturating_add-self.result
-    (g.met.P.Policy.sound c.args.self.now.policy) (sym c.if-is_full.ensures) c.in_ok-set.ensures.told c.in_ok-set.ensures.done c.in-Some.is c.written-before.ensures (c.add.ensures (search rules)) c.saturating_add-self.ensures
+pub invariant_of-self : goal.invariant_of-self
+invariant_of-self g c =
+    let old = c.args.self.now in
+    let same = unaltered (g.P.Policy.meaning old.policy) (g.P.Policy.meaning c.set.new.self) c.args.subject c.args.target c.args.operations.bits c.in_err-set.field-0.0 c.in_err-set.ensures.told c.in_err-set.ensures.done in
+    record {
+      undoable = subst (λ (m : Meaning). change_undoable old.change m ≡ true) (sym same) old.undoable;
+      fit = as_many _ _ _ (ap (λ x. x.contexts) same) old.fit;
+    }
+
+pub invariant_of-self-in-Some : goal.invariant_of-self-in-Some
+invariant_of-self-in-Some g c =
+    let old = c.args.self.now in
+    let m = g.P.Policy.meaning old.policy in
+    record {
+      undoable = undoable_set m (g.P.Policy.meaning c.set.new.self) c.args.subject c.args.target c.args.operations c.written-before.result old.change c.in-Some.notes c.add.new.self
+          c.in_ok-set.ensures.told c.in_ok-set.ensures.done c.in-Some.is c.written-before.ensures (c.add.ensures (search rules)) (g.met.P.Policy.sound old.policy) old.undoable;
+      fit = as_many m.contexts (g.P.Policy.meaning c.set.new.self).contexts _ (ap (λ x. x.contexts) c.in_ok-set.ensures.done ∙ after_set m c.args.subject c.args.target c.args.operations.bits) old.fit;
+    }
+
+pub returns-in-Some-clause-done : goal.returns-in-Some-clause-done
+returns-in-Some-clause-done g c =
+    let old = c.args.self.now in
+    noted_set (g.P.Policy.meaning old.policy) (g.P.Policy.meaning c.set.new.self) c.args.subject c.args.target c.args.operations c.written-before.result old.change c.in-Some.notes c.add.new.self
+    c.in_ok-set.ensures.told c.in_ok-set.ensures.done c.in-Some.is c.written-before.ensures (c.add.ensures (search rules)) old.settings c.saturating_add-self.result _ _ c.if-is_full.ensures c.saturating_add-self.ensures
