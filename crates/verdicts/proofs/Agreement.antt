@@ -2,8 +2,8 @@
 use Rattle.std.proofs.Common.{◌≡◌, ◌≤◌, List, map, length, refl, inl, inr, ⊎_elim, arith}
 use Rattle.access.specs.Policy.{Meaning, Interaction}
 use Rattle.verdicts.specs.Runs.{Grants}
-use Rattle.verdicts.specs.Activities.{Move, transition, transfer, contact, Makes, Property}
-use Rattle.verdicts.specs.Verdicts.{Pairwise, none, also, Realises, Guaranteed, Step, Shown, AsStep, Broken}
+use Rattle.verdicts.specs.Activities.{Move, transition, transfer, contact, Makes}
+use Rattle.verdicts.specs.Verdicts.{Pairwise, none, also, Realises, NoneRealised, Step, Shown, AsStep, ShortestShown}
 
 pub same_length : {A B : Type 0} {R : A → B → Type 0} {xs : List A} {ys : List B} → Pairwise R xs ys → length xs ≡ length ys
 same_length none = refl
@@ -20,14 +20,15 @@ module _ (m : Meaning) (gs : Grants) where
   steps_make none = none
   steps_make (also {a = v} {b = s} p ps) = also (shown_makes v s.interaction p.0) (steps_make ps)
 
-  pub broken_realised : {p : Property} {ss : List Step} (b : Broken m gs p ss) → Realises m gs b.moves
-  broken_realised {ss = ss} b = record { interactions = map (λ (s : Step). s.interaction) ss; makes = steps_make b.shown; legal = b.legal }
+  -- what steps show a legal run realises
+  pub shown_realised : {Sought : List Move → Type 0} {ss : List Step} (b : ShortestShown m gs Sought ss) → Realises m gs b.moves
+  shown_realised {ss = ss} b = record { interactions = map (λ (s : Step). s.interaction) ss; makes = steps_make b.shown; legal = b.legal }
 
-  pub never_both : {p : Property} {ss : List Step} → Broken m gs p ss → Guaranteed m gs p → ⊥
-  never_both b g = g b.moves b.forbidden (broken_realised b)
+  pub never_both : {Sought : List Move → Type 0} {ss : List Step} → ShortestShown m gs Sought ss → NoneRealised m gs Sought → ⊥
+  never_both b g = g b.moves b.sought (shown_realised b)
 
-  pub one_number : {p : Property} {ss rr : List Step} → Broken m gs p ss → Broken m gs p rr → length ss ≤ length rr
+  pub one_number : {Sought : List Move → Type 0} {ss rr : List Step} → ShortestShown m gs Sought ss → ShortestShown m gs Sought rr → length ss ≤ length rr
   one_number {ss = ss} {rr = rr} b c =
       let e = same_length c.shown in
-      let h = b.shortest c.moves c.forbidden (broken_realised c) in
+      let h = b.shortest c.moves c.sought (shown_realised c) in
       omega arith

@@ -8,7 +8,7 @@ use Rattle.access.specs.Policy.{Meaning, Interaction}
 use Rattle.verdicts.specs.Runs.{Grants}
 use Rattle.verdicts.specs.Activities.{Move, transition, transfer, contact, Property, Forbids}
 use Rattle.verdicts.specs.Possible.{granted, possible, Can, CanMake, some_op}
-use Rattle.verdicts.specs.Verdicts.{Pairwise, none, also, Realises, Step, Possible, Shown, Origin, AsStep, Broken}
+use Rattle.verdicts.specs.Verdicts.{Pairwise, none, also, Realises, Step, Possible, Shown, Origin, AsStep, AtLeast, ShortestShown, Broken}
 use Rattle.access.proofs.Bits.{has_some}
 use Rattle.access.proofs.Tests.{either_part, cases_test}
 use Rattle.verdicts.proofs.Reduction.{reduction, or_has, and_has, granting}
@@ -68,11 +68,11 @@ module _ (m : Meaning) (gs : Grants) where
       let r = steps_for vs h.1 in
       (record { interaction = i.0; origin = k.0 } ∷ r.0, also (i.1, k.1) r.1)
 
-  -- steps that show a forbidden activity than which none is shorter; that they are a legal run follows
-  pub broken_by : {p : Property} {vs : List Move} {ss : List Step} → Forbids m p vs → Pairwise (AsStep m gs) vs ss → ((ms : List Move) → Forbids m p ms → Realises m gs ms → length ss ≤ length ms) → Broken m gs p ss
-  broken_by {vs = vs} {ss = ss} f w short =
-      record { moves = vs; forbidden = f; shown = w; legal = (reduction m gs (map (λ (s : Step). s.interaction) ss)).1 (shown_can w); shortest = short }
+  -- steps that show an activity than which none is shorter; that they are a legal run follows
+  pub shown_by : {Sought : List Move → Type 0} {vs : List Move} {ss : List Step} → Sought vs → Pairwise (AsStep m gs) vs ss → AtLeast m gs Sought (length ss) → ShortestShown m gs Sought ss
+  shown_by {vs = vs} {ss = ss} f w short =
+      record { moves = vs; sought = f; shown = w; legal = (reduction m gs (map (λ (s : Step). s.interaction) ss)).1 (shown_can w); shortest = short }
 
   -- where a forbidden activity is realised and none is shorter, there are steps that show it
   pub broken_exists : (p : Property) (vs : List Move) → Forbids m p vs → Realises m gs vs → ((ms : List Move) → Forbids m p ms → Realises m gs ms → length vs ≤ length ms) → (ss : List Step) × Broken m gs p ss
-  broken_exists p vs f r short = let x = steps_for vs ((realised m gs vs).0 r) in (x.0, broken_by f x.1 (λ ms g z. omega (arith, short ms g z, same_length x.1)))
+  broken_exists p vs f r short = let x = steps_for vs ((realised m gs vs).0 r) in (x.0, shown_by f x.1 (λ ms g z. omega (arith, short ms g z, same_length x.1)))

@@ -22,6 +22,7 @@ use Rattle.verdicts.proofs.Domains.{domain_closed, domain_shortest}
 use Rattle.verdicts.proofs.Decided.{direct, direct_from, direct_found}
 use Rattle.verdicts.proofs.Lowest.{least}
 use Rattle.verdicts.proofs.Exists.{broken_exists}
+use Rattle.verdicts.proofs.First.{one_first}
 
 module _ (m : Meaning) (gs : Grants) (stays : Inside m) where
   -- a walk of k moves, as a test
@@ -132,7 +133,7 @@ few : (m : Meaning) (gs : Grants) → Sound m → (p : Property) {ss : List Step
 few m gs l (integrity A B) b = broken_few m gs (sound_inside m l) (integrity A B) tt b
 few m gs l (confidentiality A B) b = broken_few m gs (sound_inside m l) (confidentiality A B) tt b
 few m gs l (consistency A B) b = broken_few m gs (sound_inside m l) (consistency A B) tt b
-few m gs l (domain A) b = omega (arith, l.a_context, same_length b.shown, ap length b.forbidden.only)
+few m gs l (domain A) b = omega (arith, l.a_context, same_length b.shown, ap length b.sought.only)
 
 pub verdict_laws : VerdictLaws
 verdict_laws =
@@ -143,4 +144,5 @@ verdict_laws =
       exclusive = λ m gs p ss. never_both m gs;
       number = λ m gs p ss rr b c. omega (arith, one_number m gs b c, one_number m gs c b);
       few = λ m gs l p ss b. few m gs l p b;
+      once = λ m gs p ss rr a b. one_first m gs a b;
     }

@@ -12,3 +12,4 @@ pub mod Lowest
 pub mod Exists
 pub mod Judged
 pub mod Shown
+pub mod First

@@ -8,7 +8,7 @@ use Rattle.verdicts.specs.Possible.{makeable}
 use Rattle.verdicts.specs.Searches.{Search, pushing, pulling, flowing}
 use Rattle.verdicts.specs.Verdicts.{Realises, Step, Broken}
 use Rattle.verdicts.proofs.Moves.{realised}
-use Rattle.verdicts.proofs.Agreement.{broken_realised}
+use Rattle.verdicts.proofs.Agreement.{shown_realised}
 use Rattle.verdicts.proofs.Walks.{Walk, stop, go, size_most, shorten, push_walk, walk_push, pull_walk, walk_pull, flow_walk, walk_flow}
 use Rattle.verdicts.proofs.Inside.{Inside, ends}
 
@@ -121,6 +121,6 @@ module _ (m : Meaning) (gs : Grants) where
     -- a broken property is shown in no more steps than there are contexts
     pub broken_few : (p : Property) → Searched p → {ss : List Step} → Broken m gs p ss → length ss ≤ m.contexts
     broken_few p s b =
-        let x = found_short p s (length b.moves) (found_from p s b.moves b.forbidden (broken_realised m gs b)) in
+        let x = found_short p s (length b.moves) (found_from p s b.moves b.sought (shown_realised m gs b)) in
         let c = breach_from p x.0 x.2 in
         omega (arith, b.shortest c.moves c.forbidden c.realises, c.count, x.1)

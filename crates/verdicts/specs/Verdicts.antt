@@ -16,9 +16,17 @@ pub record Realises (m : Meaning) (gs : Grants) (ms : List Move) : Type 0 where
   pub makes : Pairwise Makes ms interactions
   pub legal : Legal m gs interactions
 
--- no legal run, of any length, realises an activity that the property forbids
+-- no legal run, of any length, realises one of the activities that are sought
+abbrev pub NoneRealised : Meaning → Grants → (List Move → Type 0) → Type 0
+NoneRealised m gs Sought = (ms : List Move) → Sought ms → Realises m gs ms → ⊥
+
+-- each of them that a legal run realises has at least k moves
+abbrev pub AtLeast : Meaning → Grants → (List Move → Type 0) → ℕ → Type 0
+AtLeast m gs Sought k = (ms : List Move) → Sought ms → Realises m gs ms → k ≤ length ms
+
+-- a property is guaranteed: no legal run realises an activity that it forbids
 abbrev pub Guaranteed : Meaning → Grants → Property → Type 0
-Guaranteed m gs p = (ms : List Move) → Forbids m p ms → Realises m gs ms → ⊥
+Guaranteed m gs p = NoneRealised m gs (Forbids m p)
 
 -- some legal run makes an interaction
 abbrev pub Possible : Meaning → Grants → Interaction → Type 0
@@ -60,10 +68,14 @@ pub record Step : Type 0 where
 abbrev pub AsStep : Meaning → Grants → Move → Step → Type 0
 AsStep m gs v s = Shown m gs v s.interaction × Origin m gs s.interaction s.origin
 
--- steps show a forbidden activity; a legal run has exactly their interactions; no forbidden activity that is realised is shorter
-pub record Broken (m : Meaning) (gs : Grants) (p : Property) (steps : List Step) : Type 0 where
+-- steps show one of the activities that are sought; a legal run has exactly their interactions; none that is realised is shorter
+pub record ShortestShown (m : Meaning) (gs : Grants) (Sought : List Move → Type 0) (steps : List Step) : Type 0 where
   pub moves : List Move
-  pub forbidden : Forbids m p moves
+  pub sought : Sought moves
   pub shown : Pairwise (AsStep m gs) moves steps
   pub legal : Legal m gs (map (λ (s : Step). s.interaction) steps)
-  pub shortest : (ms : List Move) → Forbids m p ms → Realises m gs ms → length steps ≤ length ms
+  pub shortest : AtLeast m gs Sought (length steps)
+
+-- a property is broken by steps: they show a shortest of the activities that it forbids and a legal run realises
+abbrev pub Broken : Meaning → Grants → Property → List Step → Type 0
+Broken m gs p steps = ShortestShown m gs (Forbids m p) steps
