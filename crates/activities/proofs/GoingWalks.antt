@@ -26,7 +26,7 @@ module _ (kind : Search) (makeable : Move → Bool) where
   each_turned true ms h = all_reverse _ ms h
   each_turned false ms h = h
 
-  turned_each : (back : Bool) (ms : List Move) → each (turned back ms) → each ms
+  pub turned_each : (back : Bool) (ms : List Move) → each (turned back ms) → each ms
   turned_each true ms h = subst each (reverse-reverse ms) (all_reverse _ (reverse ms) h)
   turned_each false ms h = h
 

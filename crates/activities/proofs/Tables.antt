@@ -1,5 +1,5 @@
 -- Lists given by a function of the place.
-use Rattle.std.proofs.Common.{◌≡◌, ℕ, zero, suc, ◌+◌, ◌-◌, ◌<◌, ◌≤◌, List, [], ◌∷◌, ◌++◌, map, reverse, length, get_or, take, sym, refl, ap, ◌∙◌, subst, arith}
+use Rattle.std.proofs.Common.{◌≡◌, ℕ, zero, suc, ◌+◌, ◌-◌, ◌<◌, ◌≤◌, List, [], ◌∷◌, ◌++◌, map, reverse, length, get_or, take, sym, refl, ap, ap₂, ◌∙◌, subst, arith}
 use lib.ListN.{length-reverse}
 use Rattle.std.proofs.lemmas.List.{ext_get_or, get_or-reverse}
 use Rattle.verdicts.specs.Activities.{Move, Chain, same, next}
@@ -17,6 +17,16 @@ get_or_tab : {X : Type 0} (f : ℕ → X) (k i : ℕ) (d : X) → i < k → get_
 get_or_tab f zero i d h = absurd (omega arith)
 get_or_tab f (suc k) zero d h = refl
 get_or_tab f (suc k) (suc i) d h = get_or_tab (λ j. f (suc j)) k i d (omega arith)
+
+pub tab_same : {X : Type 0} (f g : ℕ → X) (k : ℕ) → ((j : ℕ) → j < k → f j ≡ g j) → tab f k ≡ tab g k
+tab_same f g zero h = refl
+tab_same f g (suc k) h = ap₂ (λ x xs. x ∷ xs) (h 0 (omega arith)) (tab_same (λ j. f (suc j)) (λ j. g (suc j)) k (λ j b. h (suc j) (omega arith)))
+
+-- a table in two parts
+pub tab_parts : {X : Type 0} (f h : ℕ → X) (u r k : ℕ) → u + r ≡ k → ((j i : ℕ) → j < r → i ≡ u + j → f i ≡ h j) → tab f k ≡ tab f u ++ tab h r
+tab_parts f h zero r k e s = let q : k ≡ r = omega arith in ap (tab f) q ∙ tab_same f h r (λ j b. s j j b (omega arith))
+tab_parts f h (suc u) r zero e s = absurd (omega arith)
+tab_parts f h (suc u) r (suc k) e s = ap (λ xs. f 0 ∷ xs) (tab_parts (λ j. f (suc j)) h u r k (omega arith) (λ j i b q. s j (suc i) b (omega arith)))
 
 pub reverse_tab : {X : Type 0} (f : ℕ → X) (k : ℕ) → reverse (tab f k) ≡ tab (λ j. f (k - suc j)) k
 reverse_tab f k =

@@ -1,23 +1,23 @@
 -- What is traced along a way through the graph shows an activity of the kind.
-use Rattle.std.proofs.Common.{◌≡◌, ℕ, zero, suc, ◌+◌, ◌-◌, ◌<◌, ◌≤◌, Bool, true, false, T, List, ◌++◌, map, length, get_or, sym, refl, ap, ◌∙◌, subst, subst₂, arith, length-append}
+use Rattle.std.proofs.Common.{◌≡◌, ℕ, zero, suc, ◌+◌, ◌-◌, ◌<◌, ◌≤◌, Bool, true, false, T, List, ◌++◌, length, get_or, sym, refl, ap, ◌∙◌, subst, subst₂, arith, length-append}
 use Rattle.access.specs.Policy.{Meaning}
 use Rattle.access.specs.Sound.{Sound}
 use Rattle.verdicts.specs.Runs.{Grants}
 use Rattle.verdicts.specs.Activities.{Move, Chain}
 use Rattle.verdicts.specs.Searches.{Search}
-use Rattle.verdicts.specs.Verdicts.{Pairwise, Realises, Step as Stepping, AsStep}
-use Rattle.verdicts.proofs.Reduction.{reduction}
-use Rattle.verdicts.proofs.Agreement.{steps_make}
-use Rattle.verdicts.proofs.Exists.{shown_can}
+use Rattle.verdicts.specs.Verdicts.{Pairwise, AtLeast, AsStep}
+use Rattle.verdicts.specs.First.{along, FirstOf}
+use Rattle.verdicts.proofs.Agreement.{same_length, shown_realised}
+use Rattle.verdicts.proofs.Exists.{shown_by}
 use Rattle.moves.specs.declared.step.Step.{Step}
 use Rattle.moves.specs.Moved.{stepped}
 use Rattle.activities.specs.Kinds.{Early, here, on, last_move, turned, Going, KindLaws}
 use Rattle.activities.specs.Nodes.{phase, context, move_of, slot}
 use Rattle.activities.specs.Traced.{blank, Shows, Traced}
-use Rattle.activities.specs.Found.{Leads, AtLeast, first_steps, Found}
+use Rattle.activities.specs.Found.{Leads, first_steps, Found}
 use Rattle.activities.proofs.GoingWalks.{turned_length}
 use Rattle.activities.proofs.Inside.{short_activity}
-use Rattle.activities.proofs.Tables.{tab, length_tab, reverse_tab, chain_tab, pairwise_two}
+use Rattle.activities.proofs.Tables.{tab, length_tab, tab_parts, reverse_tab, chain_tab, pairwise_two}
 use Rattle.activities.proofs.Slots.{slot_front, slot_back}
 
 -- moves in the first of two phases
@@ -43,6 +43,21 @@ module _ (m : Meaning) (gs : Grants) {kind : Search} {back : Bool} {activities :
   abbrev rest : List Move
   rest = tab late_at (k - u)
 
+  -- the activity that is traced, in working order
+  abbrev pub traced : List Move
+  traced = front ++ turned back rest
+
+  -- the moves along the way, one from each depth
+  abbrev pub walked : List Move
+  walked = tab (λ j. move_of kind m.contexts (way j) (way (suc j))) k
+
+  walked_parts : walked ≡ front ++ rest
+  walked_parts =
+      tab_parts (λ j. move_of kind m.contexts (way j) (way (suc j))) late_at u (k - u) k (omega (arith, t.turned.within)) (λ j i b e.
+      let d : suc i ≡ u + suc j = omega arith in
+      let p : phase m.contexts (way (u + suc j)) ≡ kind.phases - 1 = subst (λ x. phase m.contexts (way x) ≡ kind.phases - 1) d (omega (arith, t.turned.late i (omega arith) (omega arith))) in
+      cc (e, d, p))
+
   going : Going kind back (c 0) (c k) (front ++ turned back rest)
   going =
       let e : u + 0 ≡ u = omega arith in
@@ -56,7 +71,15 @@ module _ (m : Meaning) (gs : Grants) {kind : Search} {back : Bool} {activities :
         order = refl;
       }
 
-  counted : length (front ++ turned back rest) ≡ k
+  pub traced_along : along back traced ≡ walked
+  unfolding going
+  traced_along = (laws.way.turns going.early going.late).0 ∙ sym walked_parts
+
+  pub traced_back : traced ≡ along back walked
+  unfolding going
+  traced_back = sym (laws.way.turns going.early going.late).1 ∙ ap (along back) (sym walked_parts)
+
+  pub counted : length (front ++ turned back rest) ≡ k
   counted = omega (arith, length-append front (turned back rest), length_tab (λ j. move_of kind m.contexts (way j) (way (suc j))) u, turned_length back rest, length_tab late_at (k - u), t.turned.within)
 
   front_slot : (b : Bool) (j : ℕ) → j < u → slot b u k j ≡ j
@@ -92,19 +115,16 @@ module _ (m : Meaning) (gs : Grants) {kind : Search} {back : Bool} {activities :
             (pair (λ j. late_at (k - u - suc j)) (λ j i h q.
             late_shown (k - u - suc j) i (omega arith) (ap (λ x. slot x u k (u + (k - u - suc j))) e ∙ slot_back u k (u + (k - u - suc j)) (omega arith) ∙ omega arith)))
 
-    -- the first k steps are found, where none is shorter
-    pub traced_found : Sound m → (A B : ℕ → Bool) → T (A (context m.contexts (way 0))) → T (B (context m.contexts (way k))) → AtLeast m gs (Leads activities A B) k → Found m gs (Leads activities A B) ss k
-    traced_found l A B begins ends least =
-        let act : activities (c 0) (c k) (front ++ turned back rest) = (laws.ways (c 0) (c k) (front ++ turned back rest)).1 going in
-        let legal = (reduction m gs (map (λ (s : Stepping). s.interaction) (first_steps k ss))).1 (shown_can m gs paired) in
-        let real : Realises m gs (front ++ turned back rest) = record { interactions = map (λ (s : Stepping). s.interaction) (first_steps k ss); makes = steps_make m gs paired; legal = legal } in
-        let s = short_activity m gs l laws (c 0) (c k) (front ++ turned back rest) act real in
+    -- the first k steps show the first of the shortest, where that is the activity along this way
+    pub traced_found : Sound m → (A B : ℕ → Bool) → T (A (context m.contexts (way 0))) → T (B (context m.contexts (way k))) → AtLeast m gs (Leads activities A B) k → FirstOf m gs (Leads activities A B) back traced → Found m gs (Leads activities A B) back ss k
+    traced_found l A B begins ends least first =
+        let act : activities (c 0) (c k) traced = (laws.ways (c 0) (c k) traced).1 going in
+        let sought : Leads activities A B traced = record { from = c 0; to = c k; from_in = begins; to_in = ends; holds = act } in
+        let n : length (first_steps k ss) ≡ k = sym (same_length paired) ∙ counted in
+        let shown = shown_by m gs {Sought = Leads activities A B} sought paired (λ ms h r. omega (arith, n, least ms h r)) in
+        let s = short_activity m gs l laws (c 0) (c k) traced act (shown_realised m gs shown) in
         record {
-          moves = front ++ turned back rest;
-          sought = record { from = c 0; to = c k; from_in = begins; to_in = ends; holds = act };
-          count = counted;
-          shown = paired;
-          legal = legal;
-          shortest = least;
+          first = record { shown = shown; first = first };
+          count = n;
           few = omega (arith, least s.2.moves (record { from = c 0; to = c k; from_in = begins; to_in = ends; holds = s.2.activity }) s.2.realises, s.2.count, s.1);
         }

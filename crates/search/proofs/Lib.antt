@@ -4,4 +4,3 @@ pub mod Children
 pub mod Order
 pub mod Distance
 pub mod Shortness
-pub mod Agreeing

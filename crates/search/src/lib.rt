@@ -3,7 +3,6 @@
 #![tactic(auto)]
 
 ghost use Rattle.std.specs.Prelude.{◌≡◌, ℕ, ◌+◌, ◌<◌, Bool, true, false, ◌||◌, ◌==◌, IfSome, length, replicate, slice_index};
-ghost use Rattle.search.specs.Agreeing.{OneWalk};
 ghost use Rattle.search.specs.Problem.{Problem, First, outside, leads};
 ghost use Rattle.search.specs.Queue.{at, Sound, Waiting, Stepped, Born, Pushed, Lent, Ticked, Ended, Kept, Answered};
 
@@ -230,8 +229,3 @@ pub fn search<G: Graph>(
         Ok(None)
     }
 }
-
-/// Searches find one walk, whatever memory is lent: it depends on the problem alone.
-pub fn one_walk_stands()
-    ensures { OneWalk }
-{}

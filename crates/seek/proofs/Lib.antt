@@ -4,4 +4,4 @@ mod Lines
 mod Turns
 mod Puts
 mod Sought
-pub mod Settled
+mod Trailed

@@ -1,17 +1,18 @@
 -- The next node of a graph of contexts at phases that is outside a set of nodes.
-use Rattle.std.proofs.Common.{◌≡◌, ℕ, ◌+◌, ◌-◌, ◌*◌, ◌/◌, ◌%◌, ◌<◌, ◌≤◌, Bool, false, not, ◌&&◌, leb, List, get_or, Some, None, sym, ap, ap₂, ◌∙◌, subst, ⊎_elim, arith}
-use Rattle.std.proofs.lemmas.Bool.{cases_lt, and_left, le-leb, lt-leb}
+use Rattle.std.proofs.Common.{◌≡◌, ℕ, ◌+◌, ◌-◌, ◌*◌, ◌/◌, ◌%◌, ◌<◌, ◌≤◌, Bool, false, not, ◌&&◌, leb, List, get_or, Some, None, sym, ap, ap₂, ◌∙◌, subst, ⊎_elim, arith, mod-lt, Option}
+use Rattle.std.proofs.lemmas.Bool.{cases_lt, and_left, le-leb, lt-leb, eq-eqb, ne_eqb}
 use Rattle.std.proofs.Math.Nat.{mul-le-mul_right}
 use Rattle.std.proofs.lemmas.Nat.{div-mul-add, div-add-mod'}
 use Rattle.access.specs.Contexts.{member, FirstAbove}
 use Rattle.access.specs.declared.context_set.ContextSet.{ContextSet}
+use Rattle.access.proofs.ContextLaws.{inside_from}
 use Rattle.access.specs.Policy.{Meaning}
 use Rattle.verdicts.specs.Runs.{Grants}
 use Rattle.verdicts.specs.Possible.{makeable}
 use Rattle.verdicts.specs.Searches.{Search}
 use Rattle.search.specs.Problem.{First, outside}
-use Rattle.activities.specs.Nodes.{phase, context, edge}
-use Rattle.seek.specs.Plan.{FirstInPhase}
+use Rattle.activities.specs.Nodes.{phase, context, edge, source}
+use Rattle.seek.specs.Plan.{among, FirstInPhase}
 use Rattle.seek.specs.Charts.{behind, in_phases}
 
 module _ (n : ℕ) (some : 1 ≤ n) where
@@ -45,6 +46,34 @@ module _ (n : ℕ) (some : 1 ≤ n) where
   pub left_in : (sets : List ContextSet) (q : ℕ) (A S : ℕ → Bool) → ((d : ℕ) → S d ≡ (A d && not (member (get_or sets q behind) d))) →
       (v : ℕ) → phase n v ≡ q → S (context n v) ≡ (A (context n v) && not (in_phases n sets v))
   left_in sets q A S h v e = h (context n v) ∙ ap (λ k. A (context n v) && not (member (get_or sets k behind) (context n v))) (sym e)
+
+  -- the first source outside a set of nodes
+  module _ (sets : List ContextSet) (A S : ℕ → Bool) (left : (d : ℕ) → S d ≡ (A d && not (member (get_or sets 0 behind) d))) where
+    abbrev fresh : ℕ → Bool
+    fresh = outside (in_phases n sets) (source n (among n A))
+
+    source_in : (v : ℕ) → v < n → fresh v ≡ S (context n v)
+    source_in v h =
+        let e = phase_in 0 v (omega arith) (omega arith) in
+        let c = context_in 0 v (omega arith) (omega arith) in
+        ap (λ b. b && not (in_phases n sets v)) (ap₂ ◌&&◌ (eq-eqb (phase n v) 0 e) (ap (λ b. b && A (context n v)) (inside_from n (context n v) (omega (arith, c)) (omega (arith, c)))))
+        ∙ sym (left_in sets 0 A S left v e)
+
+    source_behind : (v : ℕ) → n ≤ v → fresh v ≡ false
+    source_behind v h =
+        and_left _ _ (and_left _ _ (ne_eqb (phase n v) 0 (λ e. omega (arith, subst (λ q. q * n + v % n ≡ v) e (div-add-mod' v n), mod-lt v some))))
+
+    pub source_first : (phases : ℕ) → 1 ≤ phases → (r : Option ℕ) → FirstInPhase n S 0 r → First (outside (in_phases n sets) (source n (among n A))) 0 (phases * n) r
+    source_first phases one None none =
+        λ v low high. ⊎_elim (λ (l : v < n). source_in v l ∙ none v (omega arith) (omega arith)) (source_behind v) (cases_lt v n)
+    source_first phases one (Some v) first =
+        let below : v < n = omega (arith, first.below) in
+        record {
+          from = omega arith;
+          below = omega (arith, mul-le-mul_right n one);
+          passes = source_in v below ∙ first.passes;
+          before = λ u low high. source_in u (omega arith) ∙ first.before u (omega arith) high;
+        }
 
 -- no edge leads from u to a node outside a set, below the phase q
 abbrev pub NoneBelow : Search → Meaning → Grants → (ℕ → Bool) → ℕ → ℕ → Type 0

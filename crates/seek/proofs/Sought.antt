@@ -1,16 +1,14 @@
 -- What a search over the graph of an activity says of activities.
-use Rattle.std.proofs.Common.{◌≡◌, ℕ, suc, ◌*◌, ◌<◌, ◌≤◌, Bool, true, T, List, Ok, Option, Result, length, drop, sym, subst, arith}
+use Rattle.std.proofs.Common.{◌≡◌, ℕ, ◌<◌, ◌≤◌, Bool, T, List, Ok, Option, Result, length, drop, sym, subst, arith}
 use Rattle.std.proofs.lemmas.Bool.{and_parts}
-use Rattle.access.specs.Contexts.{inside, member}
+use Rattle.access.specs.Contexts.{member}
 use Rattle.access.specs.declared.context_set.ContextSet.{ContextSet}
 use Rattle.access.specs.Policy.{Meaning}
 use Rattle.access.specs.Sound.{Sound}
-use Rattle.access.proofs.Tests.{both_parts}
 use Rattle.verdicts.specs.Runs.{Grants}
 use Rattle.verdicts.specs.Activities.{Move}
 use Rattle.verdicts.specs.Searches.{Search}
-use Rattle.search.specs.Problem.{Problem, Way, Nowhere}
-use Rattle.search.specs.Problem.Walk.{stay, step}
+use Rattle.search.specs.Problem.{Problem}
 use Rattle.search.specs.Queue.{at, Found as FoundPlace, Answered, Fits, Outcome}
 use Rattle.search.specs.declared.TooShort.{TooShort}
 use Rattle.search.specs.declared.Place.{Place}
@@ -20,16 +18,16 @@ use Rattle.access.specs.declared.policy.Policy.{Ghosts as Policy}
 use Rattle.activities.specs.declared.activity.Activity.{Ghosts as Activity}
 use Rattle.moves.specs.declared.step.Step.{Step}
 use Rattle.activities.specs.Kinds.{KindLaws}
-use Rattle.activities.specs.Nodes.{edge, source}
 use Rattle.activities.specs.Traced.{Traced, SameFrom}
-use Rattle.activities.specs.Found.{Leads, NoneRealised, Found, Shortest}
-use Rattle.activities.proofs.Reached.{none_reached, least_reached, path_shortest}
+use Rattle.activities.specs.Found.{Leads, Found, Shortest}
+use Rattle.activities.proofs.Reached.{path_shortest}
 use Rattle.activities.proofs.Tracing.{traced_found}
 use Rattle.seek.specs.Plan.{among, plan, line}
 use Rattle.seek.specs.Charts.{problem_of}
 use Rattle.seek.specs.declared.chart.Chart.{Chart}
 use Rattle.seek.proofs.Lines.{inside as inside_line, joins, begins, ends}
 use Rattle.seek.proofs.Charted.{few_edges}
+use Rattle.seek.proofs.Trailed.{least_trailed, first_found}
 use Rattle.activities.proofs.Rests.{same_rest}
 
 -- what a search over a chart answered, if it was not refused
@@ -47,28 +45,17 @@ module _ (m : Meaning) (gs : Grants) (l : Sound m) {kind : Search} {back : Bool}
   abbrev p : Problem
   p = plan kind m gs A B
 
-  ins : (c : ℕ) → T (among n A c) → T (B c) → T (inside n c)
-  ins c h _ = (both_parts (inside n c) (A c) h).0
-
-  begin : (v : ℕ) → v < kind.phases * n → source n (among n A) v ≡ true → Way p v 0
-  begin v h e = record { start = v; begins = e; walk = stay h }
-
-  onward : (u v k : ℕ) → Way p u k → v < kind.phases * n → edge kind m gs u v ≡ true → Way p v (suc k)
-  onward u v k w h e = record { start = w.start; begins = w.begins; walk = step w.walk h e }
-
-  pub none_sought : Nowhere p → NoneRealised m gs (Leads activities (among m.contexts A) B)
-  none_sought never = none_reached m gs l laws (among n A) B ins (Way p) begin onward never
-
   pub found_sought : (ps : List Place) (last : ℕ) (f : FoundPlace (plan kind m gs A B) ps last) (ss ss' : List Step) → m.contexts ≤ length ss → length ss' ≡ length ss
       → Traced kind m gs back (line ps last) (at ps last).depth ss' → SameFrom (at ps last).depth ss ss'
-      → Found m gs (Leads activities (among m.contexts A) B) ss' (at ps last).depth × (drop (at ps last).depth ss' ≡ drop (at ps last).depth ss)
+      → Found m gs (Leads activities (among m.contexts A) B) back ss' (at ps last).depth × (drop (at ps last).depth ss' ≡ drop (at ps last).depth ss)
   found_sought ps last f ss ss' fits sized t same =
       let k = (at ps last).depth in
       let few : k < n = few_edges kind m gs A B l ps last f in (
         traced_found m gs laws (line ps last) k ss' t (omega arith) l (among n A) B
             (subst T (sym (and_parts _ _ (begins p ps last f.sound)).1) tt)
             (subst T (sym (ends p ps last f.sound f.target)) tt)
-            (least_reached m gs l laws (among n A) B ins (Way p) begin onward k f.least),
+            (least_trailed m gs l laws A B k f.least)
+            (first_found m gs l laws A B ps last f ss' t),
         same_rest k ss ss' sized same,
       )
 
@@ -78,4 +65,4 @@ module _ (m : Meaning) (gs : Grants) (l : Sound m) {kind : Search} {back : Bool}
       path_shortest m gs l laws (among n A) B k (line ps last) (inside_line p ps last f.sound) (joins p ps last f.sound)
       (subst T (sym (and_parts _ _ (begins p ps last f.sound)).1) tt)
       (subst T (sym (ends p ps last f.sound f.target)) tt)
-      (least_reached m gs l laws (among n A) B ins (Way p) begin onward k f.least)
+      (least_trailed m gs l laws A B k f.least)

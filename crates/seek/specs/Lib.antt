@@ -2,4 +2,3 @@ pub mod Plan
 pub mod Charts
 pub mod Ways
 pub mod Sought
-pub mod Settled

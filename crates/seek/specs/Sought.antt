@@ -18,9 +18,9 @@ pub record Suffices (phases n : ℕ) (ticks : List ℕ) (places : List Place) (s
 
 -- refused with 12 exactly where the memory does not suffice, the places and the steps as before; else what the search found of
 -- the activities that lead from a context of A to one of B
-abbrev pub Answered : ℕ → Meaning → Grants → (ℕ → ℕ → List Move → Type 0) → (ℕ → Bool) → (ℕ → Bool) → List ℕ → List Place → List Place → List Step → List Step → Result (Option ℕ) Refusal → Type 0
-Answered phases m gs activities A B ts ps ps' ss ss' (Ok r) = Suffices phases m.contexts ts ps ss × Searched m gs (Leads activities (among m.contexts A) B) ss ss' r
-Answered phases m gs activities A B ts ps ps' ss ss' (Err why) = (refusal_number why ≡ 12) × (Suffices phases m.contexts ts ps ss → ⊥) × (ps' ≡ ps) × (ss' ≡ ss)
+abbrev pub Answered : ℕ → Meaning → Grants → (ℕ → ℕ → List Move → Type 0) → Bool → (ℕ → Bool) → (ℕ → Bool) → List ℕ → List Place → List Place → List Step → List Step → Result (Option ℕ) Refusal → Type 0
+Answered phases m gs activities back A B ts ps ps' ss ss' (Ok r) = Suffices phases m.contexts ts ps ss × Searched m gs (Leads activities (among m.contexts A) B) back ss ss' r
+Answered phases m gs activities back A B ts ps ps' ss ss' (Err why) = (refusal_number why ≡ 12) × (Suffices phases m.contexts ts ps ss → ⊥) × (ps' ≡ ps) × (ss' ≡ ss)
 
 -- there is a tick and a place for each context in each phase
 pub record SearchRoom (phases n : ℕ) (ticks : List ℕ) (places : List Place) : Type 0 where

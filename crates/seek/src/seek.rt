@@ -2,7 +2,6 @@
 ghost use Rattle.std.specs.Prelude.{◌≡◌, length, replicate};
 ghost use Rattle.access.specs.Contexts.{member};
 ghost use Rattle.moves.specs.Regimes.{meaning_of, grants_of};
-ghost use Rattle.seek.specs.Settled.{ShowsFirst, SameSteps};
 ghost use Rattle.seek.specs.Sought.{Answered};
 
 use crate::chart::Chart;
@@ -30,8 +29,7 @@ pub fn seek<'a, A: Activity, P: Policy>(
     places: &mut [Place],
     steps: &mut [Step],
 ) -> Result<Option<usize>, Refusal>
-    ensures answer { Answered A.Activity.kind.phases (meaning_of P.Policy.meaning moves.now.regime) (grants_of moves.now.regime) A.Activity.activities (member from) (member to) ticks.old places.old places.new steps.old steps.new result }
-    ensures first { ShowsFirst A.Activity.kind (meaning_of P.Policy.meaning moves.now.regime) (grants_of moves.now.regime) A.Activity.BACKWARDS (member from) (member to) steps.new result }
+    ensures answer { Answered A.Activity.kind.phases (meaning_of P.Policy.meaning moves.now.regime) (grants_of moves.now.regime) A.Activity.activities A.Activity.BACKWARDS (member from) (member to) ticks.old places.old places.new steps.old steps.new result }
     ensures ticks { ticks.new ≡ replicate (length ticks.old) 0 }
 {
     if steps.len() < usize::from(moves.contexts()) {
@@ -50,8 +48,3 @@ pub fn seek<'a, A: Activity, P: Policy>(
     };
     Ok(Some(way.write(steps)))
 }
-
-/// The steps depend on what is sought alone: on no memory, and on no other thing of the policy than its meaning.
-pub fn same_steps_stand()
-    ensures { SameSteps }
-{}

@@ -69,7 +69,7 @@ module _ (m : Meaning) (gs : Grants) where
       (record { interaction = i.0; origin = k.0 } ∷ r.0, also (i.1, k.1) r.1)
 
   -- steps that show an activity than which none is shorter; that they are a legal run follows
-  pub shown_by : {Sought : List Move → Type 0} {vs : List Move} {ss : List Step} → Sought vs → Pairwise (AsStep m gs) vs ss → AtLeast m gs Sought (length ss) → ShortestShown m gs Sought ss
+  abbrev pub shown_by : {Sought : List Move → Type 0} {vs : List Move} {ss : List Step} → Sought vs → Pairwise (AsStep m gs) vs ss → AtLeast m gs Sought (length ss) → ShortestShown m gs Sought ss
   shown_by {vs = vs} {ss = ss} f w short =
       record { moves = vs; sought = f; shown = w; legal = (reduction m gs (map (λ (s : Step). s.interaction) ss)).1 (shown_can w); shortest = short }
 

@@ -3,7 +3,8 @@ use Rattle.access.specs.Contexts.{member}
 use Rattle.moves.specs.Regimes.{grants_of}
 use Rattle.activities.specs.Found.{Leads, Shortest}
 use Rattle.seek.specs.Plan.{among}
-use Rattle.seek.proofs.Sought.{told, none_sought, shortest_sought}
+use Rattle.seek.proofs.Sought.{told, shortest_sought}
+use Rattle.seek.proofs.Trailed.{none_trailed}
 use Rattle.seek.proofs.measure.measure.Goals as goal
 
 pub returns-in_default-clause-answer : goal.returns-in_default-clause-answer
@@ -13,7 +14,7 @@ returns-in_default-clause-answer g c =
     let is : c.search.result ≡ Ok None = search rules in
     let answer = told c.between-chart.result c.between-chart.ensures.moves c.between-chart.ensures.from c.between-chart.ensures.to c.search.new.places None is c.search.ensures.answer in (
       record { ticks_fit = answer.0.ticks; places_fit = answer.0.places },
-      none_sought m gs (g.met.P.Policy.sound c.args.moves.now.regime.policy.now) g.met.A.Activity.lawful (member c.args.from) (member c.args.to) answer.1,
+      none_trailed m gs (g.met.P.Policy.sound c.args.moves.now.regime.policy.now) g.met.A.Activity.lawful (member c.args.from) (member c.args.to) answer.1,
     )
 
 pub returns-clause-answer : goal.returns-clause-answer

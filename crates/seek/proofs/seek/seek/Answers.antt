@@ -6,9 +6,8 @@ use Rattle.activities.specs.Traced.{Traced}
 use Rattle.activities.specs.Found.{Leads, Searched}
 use Rattle.seek.specs.Plan.{among, line}
 use Rattle.seek.proofs.Charted.{few_edges}
-use Rattle.seek.proofs.Sought.{told, none_sought, found_sought}
-use Rattle.seek.specs.Settled.{Settled}
-use Rattle.seek.proofs.Settled.{settled}
+use Rattle.seek.proofs.Sought.{told, found_sought}
+use Rattle.seek.proofs.Trailed.{none_trailed}
 use Rattle.seek.proofs.seek.seek.Goals as goal
 
 pub returns-in_default-clause-answer : goal.returns-in_default-clause-answer
@@ -18,7 +17,7 @@ returns-in_default-clause-answer g c =
     let is : c.search.result ≡ Ok None = search rules in
     let answer = told c.between-chart.result c.between-chart.ensures.moves c.between-chart.ensures.from c.between-chart.ensures.to c.search.new.places None is c.search.ensures.answer in (
       record { ticks_fit = answer.0.ticks; places_fit = answer.0.places; steps_fit = omega (arith, c.if-steps-from.false, c.contexts.ensures, c.from.ensures) },
-      (none_sought m gs (g.met.P.Policy.sound c.args.moves.now.regime.policy.now) g.met.A.Activity.lawful (member c.args.from) (member c.args.to) answer.1, refl),
+      (none_trailed m gs (g.met.P.Policy.sound c.args.moves.now.regime.policy.now) g.met.A.Activity.lawful (member c.args.from) (member c.args.to) answer.1, refl),
     )
 
 pub write-requires : goal.write-requires
@@ -41,19 +40,5 @@ returns-clause-answer g c =
     let shown = subst (λ v. Traced g.A.Activity.kind (meaning_of g.P.Policy.meaning v.regime) (grants_of v.regime) g.A.Activity.BACKWARDS (line ps last) (at ps last).depth c.write.new.steps) c.between-chart.ensures.moves c.write.ensures.shown in
     let sought = found_sought m gs (g.met.P.Policy.sound c.args.moves.now.regime.policy.now) g.met.A.Activity.lawful (member c.args.from) (member c.args.to) ps last answer.1 c.args.steps.now c.write.new.steps room c.write.auto.steps shown c.write.ensures.rest in (
       record { ticks_fit = answer.0.ticks; places_fit = answer.0.places; steps_fit = room },
-      subst (λ (k : ℕ). Searched m gs (Leads g.A.Activity.activities (among m.contexts (member c.args.from)) (member c.args.to)) c.args.steps.now c.write.new.steps (Some k)) (sym c.write.ensures.all) sought,
+      subst (λ (k : ℕ). Searched m gs (Leads g.A.Activity.activities (among m.contexts (member c.args.from)) (member c.args.to)) g.A.Activity.BACKWARDS c.args.steps.now c.write.new.steps (Some k)) (sym c.write.ensures.all) sought,
     )
-
-pub returns-clause-first : goal.returns-clause-first
-returns-clause-first g c =
-    let m = g.P.Policy.meaning c.args.moves.now.regime.policy.now in
-    let gs = grants_of c.args.moves.now.regime in
-    let ps = c.search.new.places in
-    let last = c.in-Some.last in
-    let is : c.search.result ≡ Ok (Some c.in-Some.last) = search rules in
-    let answer = told c.between-chart.result c.between-chart.ensures.moves c.between-chart.ensures.from c.between-chart.ensures.to ps (Some last) is c.search.ensures.answer in
-    let room : m.contexts ≤ length c.args.steps.now = omega (arith, c.if-steps-from.false, c.contexts.ensures, c.from.ensures) in
-    let few = few_edges g.A.Activity.kind m gs (member c.args.from) (member c.args.to) (g.met.P.Policy.sound c.args.moves.now.regime.policy.now) ps last answer.1 in
-    let shown = subst (λ v. Traced g.A.Activity.kind (meaning_of g.P.Policy.meaning v.regime) (grants_of v.regime) g.A.Activity.BACKWARDS (line ps last) (at ps last).depth c.write.new.steps) c.between-chart.ensures.moves c.write.ensures.shown in
-    let first = settled g.A.Activity.kind m gs g.A.Activity.BACKWARDS (member c.args.from) (member c.args.to) ps last answer.1 c.write.new.steps (omega (arith, c.write.auto.steps, few, room)) shown in
-    subst (λ (k : ℕ). Settled g.A.Activity.kind m gs g.A.Activity.BACKWARDS (member c.args.from) (member c.args.to) c.write.new.steps k) (sym c.write.ensures.all) first
