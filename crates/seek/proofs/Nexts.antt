@@ -1,5 +1,5 @@
 -- The next node of a graph of contexts at phases that is outside a set of nodes.
-use Rattle.std.proofs.Common.{◌≡◌, ℕ, ◌+◌, ◌-◌, ◌*◌, ◌/◌, ◌%◌, ◌<◌, ◌≤◌, Bool, false, not, ◌&&◌, leb, List, get_or, Some, None, sym, ap, ap₂, ◌∙◌, subst, ⊎_elim, arith}
+use Rattle.std.proofs.Common.{◌≡◌, ℕ, ◌+◌, ◌-◌, ◌*◌, ◌/◌, ◌%◌, ◌<◌, ◌≤◌, Bool, false, not, ◌&&◌, leb, List, get_or, Some, None, true, refl, sym, ap, ap₂, ◌∙◌, subst, ⊎_elim, arith}
 use Rattle.std.proofs.lemmas.Bool.{cases_lt, and_left, le-leb, lt-leb}
 use Rattle.std.proofs.Math.Nat.{mul-le-mul_right}
 use Rattle.std.proofs.lemmas.Nat.{div-mul-add, div-add-mod'}
@@ -45,6 +45,11 @@ module _ (n : ℕ) (some : 1 ≤ n) where
   pub left_in : (sets : List ContextSet) (q : ℕ) (A S : ℕ → Bool) → ((d : ℕ) → S d ≡ (A d && not (member (get_or sets q behind) d))) →
       (v : ℕ) → phase n v ≡ q → S (context n v) ≡ (A (context n v) && not (in_phases n sets v))
   left_in sets q A S h v e = h (context n v) ∙ ap (λ k. A (context n v) && not (member (get_or sets k behind) (context n v))) (sym e)
+
+-- where no edge leads, none does from a node
+pub none_either : (node led held : Bool) → (led && not held) ≡ false → ((node && led) && not held) ≡ false
+none_either false led held e = refl
+none_either true led held e = e
 
 -- no edge leads from u to a node outside a set, below the phase q
 abbrev pub NoneBelow : Search → Meaning → Grants → (ℕ → Bool) → ℕ → ℕ → Type 0
