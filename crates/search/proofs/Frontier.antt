@@ -4,9 +4,10 @@ use Rattle.std.proofs.lemmas.List.{length-set}
 use Rattle.std.proofs.lemmas.Bool.{both_ways, cases_eq, cases_lt}
 use Rattle.lent.specs.declared.Cleared.{Cleared}
 use Rattle.lent.specs.declared.List.{List as Places}
-use Rattle.search.specs.Problem.{Problem}
+use Rattle.search.specs.Problem.{Problem, of_node}
 use Rattle.search.specs.Queue.{blank, at, total, After, Sound, At, Open, Within, Queue, Grown, Struck, Went, Ready, Waiting, Stepped, Pushed, Lent}
 use Rattle.search.specs.declared.Place.{Place}
+use Rattle.search.proofs.Asked.{of_node_is}
 
 pub total_le : (ts : List ℕ) (n : ℕ) → ((v : ℕ) → v < n → get_or ts v 0 ≤ 1) → total ts n ≤ n
 total_le ts zero h = omega arith
@@ -180,13 +181,12 @@ module _ (p : Problem) (ts : List ℕ) (ps : List Place) (used : ℕ) (q : Place
         depth = ap (λ (x : Place). x.depth) last;
       }
 
-  went_push : (p.target q.node ≡ true → ⊥) → Went p ts (set ts q.node 1) ps (set ps used q) used (used + 1) q.depth (λ v. v ≡ q.node)
+  went_push : (p.target q.node ≡ true → ⊥) → Went p ts (set ts q.node 1) ps (set ps used q) used (used + 1) q.depth
   went_push t =
       record {
         grown = pushed;
         «open» = closed;
         within = within_push;
-        covers = λ v l e. record { index = used; below = omega arith; is = ap (λ (x : Place). x.node) new ∙ sym e; depth = omega (arith, depth_new) };
       }
     where
       closed : Open p (set ps used q) (used + 1)
@@ -201,11 +201,11 @@ module _ (p : Problem) (ts : List ℕ) (ps : List Place) (used : ℕ) (q : Place
 -- a visit: a tick, a push, and the question whether this is a target
 pub stepped_push : (p : Problem) (t t' : Cleared) (l l' : Places Place) (q : Place) (hit : Bool) → Waiting p t l q.depth → Sound p l.items.now l.len q →
     get_or t.bytes.now q.node 0 ≡ 0 → t'.bytes.now ≡ set t.bytes.now q.node 1 → l'.items.now ≡ set l.items.now l.len q →
-    l'.len ≡ l.len + 1 → hit ≡ p.target q.node → Stepped p t t' l l' q.depth (λ v. v ≡ q.node) hit
+    l'.len ≡ l.len + 1 → hit ≡ of_node p p.target q.node → Stepped p t t' l l' q.depth hit
 stepped_push p t t' l l' q true r s z e f h g =
-    rw (e, f, h) (struck_push p t.bytes.now l.items.now l.len q r s z (sym g))
+    rw (e, f, h) (struck_push p t.bytes.now l.items.now l.len q r s z (sym (g ∙ of_node_is p q.node s.node p.target)))
 stepped_push p t t' l l' q false r s z e f h g =
-    rw (e, f, h) (went_push p t.bytes.now l.items.now l.len q r s z (both_ways _ (sym g)))
+    rw (e, f, h) (went_push p t.bytes.now l.items.now l.len q r s z (both_ways _ (sym (g ∙ of_node_is p q.node s.node p.target))))
 
 -- a visit writes its place behind the others
 pub put_behind : (p : Problem) (t : Cleared) (l l' : Places Place) (q : Place) → Waiting p t l q.depth → Sound p l.items.now l.len q →
@@ -224,12 +224,12 @@ at_kept same l m x =
     }
 
 module _ (p : Problem) {t₀ t₁ : List ℕ} {s₀ s₁ : List Place} {a b : ℕ} (d : ℕ) where
-  pub ready : {S : ℕ → Type 0} → Went p t₀ t₁ s₀ s₁ a b d S → Ready p t₁ s₁ b d
+  pub ready : Went p t₀ t₁ s₀ s₁ a b d → Ready p t₁ s₁ b d
   ready g = record { queue = g.grown.queue; «open» = g.«open»; within = g.within }
 
 -- what a loop over nodes keeps: no target was met, on the same lent memory
 abbrev pub Turn : Problem → Cleared → Cleared → Places Place → Places Place → ℕ → Type 0
-Turn p t t' q q' d = Stepped p t t' q q' d (λ _. ⊥) false × Lent t t' q q'
+Turn p t t' q q' d = Stepped p t t' q q' d false × Lent t t' q q'
 
 pub lent_then : {a b c d e f : ℕ} → (b ≡ a) × (e ≡ d) → (c ≡ b) × (f ≡ e) → (c ≡ a) × (f ≡ d)
 lent_then g h = (h.0 ∙ g.0, h.1 ∙ g.1)

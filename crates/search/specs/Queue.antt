@@ -88,12 +88,11 @@ pub record Struck (p : Problem) (ts ts' : List ℕ) (ps ps' : List Place) (used 
   pub target : p.target (at ps' (more - 1)).node ≡ true
   pub depth : (at ps' (more - 1)).depth ≡ d
 
--- no target was met, and each node of S has a place of depth d at most
-pub record Went (p : Problem) (ts ts' : List ℕ) (ps ps' : List Place) (used more d : ℕ) (S : ℕ → Type 0) : Type 0 where
+-- no target was met, and no place is deeper than d
+pub record Went (p : Problem) (ts ts' : List ℕ) (ps ps' : List Place) (used more d : ℕ) : Type 0 where
   pub grown : Grown p ts ts' ps ps' used more
   pub «open» : Open p ps' more
   pub within : Within ps' more d
-  pub covers : (v : ℕ) → v < p.nodes → S v → At ps' more v d
 
 -- the place q is at the depth d, reached from the place `head`, of a node below `bound`
 pub record Child (head d bound : ℕ) (q : Place) : Type 0 where
@@ -162,10 +161,10 @@ Answered p ts ps ps' (Err _) = (Fits p ts ps → ⊥) × (ps' ≡ ps)
 abbrev pub Waiting : Problem → Cleared → Places Place → ℕ → Type 0
 Waiting p t q d = Ready p t.bytes.now q.items.now q.len d
 
--- a part of a search met a target, or went over the nodes of S
-abbrev pub Stepped : Problem → Cleared → Cleared → Places Place → Places Place → ℕ → (ℕ → Type 0) → Bool → Type 0
-Stepped p t t' q q' d S true = Struck p t.bytes.now t'.bytes.now q.items.now q'.items.now q.len q'.len d
-Stepped p t t' q q' d S false = Went p t.bytes.now t'.bytes.now q.items.now q'.items.now q.len q'.len d S
+-- a part of a search met a target, or none
+abbrev pub Stepped : Problem → Cleared → Cleared → Places Place → Places Place → ℕ → Bool → Type 0
+Stepped p t t' q q' d true = Struck p t.bytes.now t'.bytes.now q.items.now q'.items.now q.len q'.len d
+Stepped p t t' q q' d false = Went p t.bytes.now t'.bytes.now q.items.now q'.items.now q.len q'.len d
 
 -- the memory is still the one that was lent
 abbrev pub Lent : Cleared → Cleared → Places Place → Places Place → Type 0

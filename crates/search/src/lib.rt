@@ -70,7 +70,7 @@ fn visit<G: Graph>(
     requires fresh { slice_index ticks.old.bytes.now place.node ≡ 0 }
     requires same { Ticked (G.problem graph.now) ticks.old (G.holds graph.now reached.old) }
     ensures lent { Lent ticks.old ticks.new places.old places.new }
-    ensures stepped { Stepped (G.problem graph.now) ticks.old ticks.new places.old places.new place.depth (λ v. v ≡ place.node) result }
+    ensures stepped { Stepped (G.problem graph.now) ticks.old ticks.new places.old places.new place.depth result }
     ensures same { Ticked (G.problem graph.now) ticks.new (G.holds graph.now reached.new) }
     ensures pushed { Pushed places.old places.new place }
 {
@@ -106,7 +106,7 @@ fn visit_all<G: Graph>(
     requires sound { (v : ℕ) → v < (G.problem graph.now).nodes → leads (G.problem graph.now) from v ≡ true → Sound (G.problem graph.now) places.old.items.now places.old.len (record { node = v; parent = parent; depth = depth }) }
     requires same { Ticked (G.problem graph.now) ticks.old (G.holds graph.now reached.old) }
     ensures lent { Lent ticks.old ticks.new places.old places.new }
-    ensures stepped { Stepped (G.problem graph.now) ticks.old ticks.new places.old places.new depth (λ v. leads (G.problem graph.now) from v ≡ true) result }
+    ensures stepped { Stepped (G.problem graph.now) ticks.old ticks.new places.old places.new depth result }
     ensures same { Ticked (G.problem graph.now) ticks.new (G.holds graph.now reached.new) }
     ensures born { Born (G.problem graph.now) from parent depth places.new.items.now places.old.len places.new.len result }
 {
@@ -138,7 +138,7 @@ fn start<G: Graph>(
     requires ready { Waiting (G.problem graph.now) ticks.old places.old 0 }
     requires same { Ticked (G.problem graph.now) ticks.old (G.holds graph.now reached.old) }
     ensures lent { Lent ticks.old ticks.new places.old places.new }
-    ensures stepped { Stepped (G.problem graph.now) ticks.old ticks.new places.old places.new 0 (λ v. (G.problem graph.now).source v ≡ true) result }
+    ensures stepped { Stepped (G.problem graph.now) ticks.old ticks.new places.old places.new 0 result }
     ensures same { Ticked (G.problem graph.now) ticks.new (G.holds graph.now reached.new) }
     ensures born { Born (G.problem graph.now) None 0 0 places.new.items.now places.old.len places.new.len result }
 {
@@ -159,7 +159,7 @@ fn scan<G: Graph>(
     requires here { at places.old.items.now head ≡ from }
     requires same { Ticked (G.problem graph.now) ticks.old (G.holds graph.now reached.old) }
     ensures lent { Lent ticks.old ticks.new places.old places.new }
-    ensures stepped { Stepped (G.problem graph.now) ticks.old ticks.new places.old places.new (from.depth + 1) (λ v. leads (G.problem graph.now) (Some from.node) v ≡ true) result }
+    ensures stepped { Stepped (G.problem graph.now) ticks.old ticks.new places.old places.new (from.depth + 1) result }
     ensures same { Ticked (G.problem graph.now) ticks.new (G.holds graph.now reached.new) }
     ensures born { Born (G.problem graph.now) (Some from.node) head (from.depth + 1) places.new.items.now places.old.len places.new.len result }
 {
@@ -217,7 +217,8 @@ pub fn search<G: Graph>(
     if marks.len() < nodes || room < nodes {
         return Err(TooShort);
     }
-    // The ticked nodes once more, in the form in which the graph can look for others.
+    // What was reached is kept twice: the ticks are lent memory, to be handed back zero, and count the places, so that a push has room;
+    // the set is the form in which the graph finds the next node.
     let mut reached = graph.no_nodes();
     // No second answer beside the test: the target that was met is the last place.
     if explore(graph, &mut marks, &mut reached, &mut queue) {
