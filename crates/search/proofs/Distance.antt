@@ -10,7 +10,7 @@ use Rattle.search.proofs.Asked.{leads_on}
 use Rattle.search.proofs.Trails.{back_trail}
 use Rattle.search.proofs.Order.{reach, before_head, order_on, order_start, foremost_on}
 use Rattle.search.specs.declared.Place.{Place}
-use Rattle.search.proofs.Frontier.{used_le, at_kept}
+use Rattle.search.proofs.Frontier.{used_le, at_kept, drop_on}
 
 -- the parents lead back along a walk
 way_below : (p : Problem) (ps : List Place) (last n i : ℕ) → ((i : ℕ) → i ≤ last → Sound p ps i (at ps i)) → i < n → i ≤ last →
@@ -109,7 +109,7 @@ module _ (p : Problem) {ts ts' : List ℕ} {ps ps' : List Place} {used more head
 
 -- no more than the first `nodes` places are written
 pub kept : (p : Problem) {ts ts' : List ℕ} {ps ps' : List Place} {used more : ℕ} → Grown p ts ts' ps ps' used more → Kept p ps ps'
-kept p g i l = g.beyond i (omega (arith, used_le _ _ _ _ g.queue))
+kept p g = drop_on _ _ _ _ (used_le _ _ _ _ g.queue) g.beyond
 
 pub total_none : (ts : List ℕ) (n : ℕ) → ((v : ℕ) → v < n → get_or ts v 0 ≡ 0) → total ts n ≡ 0
 total_none ts zero h = refl

@@ -1,6 +1,6 @@
 -- What a push does to the queue, and how steps follow one another.
-use Rattle.std.proofs.Common.{◌≡◌, ℕ, zero, suc, ◌+◌, ◌-◌, ◌<◌, ◌≤◌, Bool, true, false, ◌≢◌, ◌⊎◌, List, length, get_or, set, sym, refl, ap, ◌∙◌, subst, inl, inr, ⊎_elim, arith, get_or-set_other, get_or-set_same}
-use Rattle.std.proofs.lemmas.List.{length-set}
+use Rattle.std.proofs.Common.{◌≡◌, ℕ, zero, suc, ◌+◌, ◌-◌, ◌<◌, ◌≤◌, Bool, true, false, ◌≢◌, ◌⊎◌, List, length, get_or, set, drop, sym, refl, ap, ◌∙◌, subst, inl, inr, ⊎_elim, arith, get_or-set_other, get_or-set_same}
+use Rattle.std.proofs.lemmas.List.{length-set, drop-drop, drop-set-lt}
 use Rattle.std.proofs.lemmas.Bool.{both_ways, cases_eq, cases_lt}
 use Rattle.lent.specs.declared.Cleared.{Cleared}
 use Rattle.lent.specs.declared.List.{List as Places}
@@ -52,6 +52,12 @@ marks_set ts v w k l =
     (λ (e : w ≡ v). subst (λ u. get_or (set ts v 1) u 0 ≤ 1) (sym e) (omega (arith, get_or-set_same ts v 1 0 k)))
     (λ (e : w ≡ v → ⊥). let ne : w ≢ v = e in omega (arith, get_or-set_other ts v w 1 0 ne, l))
     (cases_eq w v)
+
+-- lists that are the same from some place on are so further on
+pub drop_on : (m n : ℕ) (xs ys : List Place) → m ≤ n → drop m xs ≡ drop m ys → drop n xs ≡ drop n ys
+drop_on m n xs ys l e =
+    let k : m + (n - m) ≡ n = omega arith in
+    subst (λ j. drop j xs ≡ drop j ys) k (sym (drop-drop (n - m) m xs) ∙ ap (drop (n - m)) e ∙ drop-drop (n - m) m ys)
 
 -- there are never more places than nodes
 pub used_le : (p : Problem) (ts : List ℕ) (ps : List Place) (used : ℕ) → Queue p ts ps used → used ≤ p.nodes
@@ -165,7 +171,7 @@ module _ (p : Problem) (ts : List ℕ) (ps : List Place) (used : ℕ) (q : Place
         sized = simp length-set;
         further = omega arith;
         same = same;
-        beyond = λ i h. let ne : i ≢ used = omega arith in get_or-set_other ps used i q blank ne;
+        beyond = drop-set-lt (used + 1) ps used q (omega arith);
       }
 
   -- the last place is the new one
@@ -226,6 +232,17 @@ at_kept same l m x =
 module _ (p : Problem) {t₀ t₁ : List ℕ} {s₀ s₁ : List Place} {a b : ℕ} (d : ℕ) where
   pub ready : Went p t₀ t₁ s₀ s₁ a b d → Ready p t₁ s₁ b d
   ready g = record { queue = g.grown.queue; «open» = g.«open»; within = g.within }
+
+-- a queue that grows twice
+pub grown_then : (p : Problem) {t₀ t₁ t₂ : List ℕ} {s₀ s₁ s₂ : List Place} {a b c : ℕ} → Grown p t₀ t₁ s₀ s₁ a b → Grown p t₁ t₂ s₁ s₂ b c → Grown p t₀ t₂ s₀ s₂ a c
+grown_then p g h =
+    record {
+      queue = h.queue;
+      sized = h.sized ∙ g.sized;
+      further = omega (arith, g.further, h.further);
+      same = λ i l. h.same i (omega (arith, g.further)) ∙ g.same i l;
+      beyond = h.beyond ∙ drop_on _ _ _ _ h.further g.beyond;
+    }
 
 -- what a loop over nodes keeps: no target was met, on the same lent memory
 abbrev pub Turn : Problem → Cleared → Cleared → Places Place → Places Place → ℕ → Type 0

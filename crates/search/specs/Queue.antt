@@ -1,5 +1,5 @@
 -- What the ticks and the places say while a search goes on.
-use Rattle.std.specs.Prelude.{◌≡◌, ℕ, zero, suc, ◌+◌, ◌-◌, ◌<◌, ◌≤◌, Bool, true, false, not, ◌==◌, List, [], ◌∷◌, length, Ok, Err, Option, Result, MatchOption, ◌≢◌, slice_index, slice_index_or}
+use Rattle.std.specs.Prelude.{◌≡◌, ℕ, zero, suc, ◌+◌, ◌-◌, ◌<◌, ◌≤◌, Bool, true, false, not, ◌==◌, List, [], ◌∷◌, length, drop, Ok, Err, Option, Result, MatchOption, ◌≢◌, slice_index, slice_index_or}
 use Rattle.lent.specs.declared.Cleared.{Cleared}
 use Rattle.lent.specs.declared.List.{List as Places}
 use Rattle.search.specs.Problem.{Problem, leads, Way, Nowhere, Least}
@@ -79,7 +79,7 @@ pub record Grown (p : Problem) (ts ts' : List ℕ) (ps ps' : List Place) (used m
   pub sized : length ts' ≡ length ts
   pub further : used ≤ more
   pub same : (i : ℕ) → i < used → at ps' i ≡ at ps i
-  pub beyond : (i : ℕ) → more ≤ i → at ps' i ≡ at ps i
+  pub beyond : drop more ps' ≡ drop more ps
 
 -- the last place is a target, at the depth d
 pub record Struck (p : Problem) (ts ts' : List ℕ) (ps ps' : List Place) (used more d : ℕ) : Type 0 where
@@ -136,7 +136,7 @@ pub record Spread (p : Problem) (ts : List ℕ) (ps : List Place) (used head : �
 
 -- no more than the first `nodes` places are written
 abbrev pub Kept : Problem → List Place → List Place → Type 0
-Kept p ps ps' = (i : ℕ) → p.nodes ≤ i → at ps' i ≡ at ps i
+Kept p ps ps' = drop p.nodes ps' ≡ drop p.nodes ps
 
 -- the place `last` ends a shortest walk from a source to a target, and the parents lead back along it; no other as short comes before it
 pub record Found (p : Problem) (ps : List Place) (last : ℕ) : Type 0 where

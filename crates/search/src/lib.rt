@@ -92,7 +92,7 @@ fn next_node<G: Graph>(graph: &G, from: Option<u16>, reached: &G::Nodes) -> Opti
     }
 }
 
-/// Visits the nodes without a tick to which an edge leads from a node, or the sources where none is given, until one is a target.
+/// Visits the nodes outside a set to which an edge leads from a node, or the sources where none is given, until one is a target.
 fn visit_all<G: Graph>(
     graph: &G,
     ticks: &mut Cleared<'_>,

@@ -27,7 +27,8 @@ pub fn is_short(phases: u16, contexts: u16, ticks: &[u8], places: &[Place], step
 
 /// Seeks a shortest activity of a kind from a context of one set to a context of another, over the moves that some legal run
 /// of the policy with the standing grants makes. It answers how many steps the activity has, which then stand in front of
-/// `steps`, or `None` where there is no such activity of any length.
+/// `steps`, or `None` where there is no such activity of any length. Of `places` no more than one for each context in each phase is
+/// written.
 ///
 /// The lent memory comes as three slices: of a struct that holds them, each contract would owe that it still lends the same three.
 // Two sets side by side, from and to, and so in `measure`: a struct of them would only name them once more at each call.
