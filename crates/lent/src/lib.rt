@@ -2,7 +2,7 @@
 
 #![tactic(auto)]
 
-ghost use Rattle.std.specs.Prelude.{◌≡◌, ◌<◌, ◌≤◌, not, length, set, replicate, Some, None, Ok, Err, ◌==◌, slice_index, slice_index_or, slice_set};
+ghost use Rattle.std.specs.Prelude.{◌≡◌, ◌<◌, ◌≤◌, length, set, replicate, Some, None, Ok, Err, slice_index_or, slice_set};
 ghost use Rattle.lent.specs.Changes.{Pushed};
 
 /// A list whose items are the first `len` of a lent slice: memory is lent and fixed, so a vector cannot hold them.
@@ -85,13 +85,6 @@ impl<'a> Cleared<'a> {
         ensures { result ≡ length self.now.bytes.now }
     {
         self.bytes.len()
-    }
-
-    /// Behind the last byte nothing is ticked.
-    pub fn is_ticked(&self, i: usize) -> bool
-        ensures { result ≡ not (slice_index self.now.bytes.now i == 0) }
-    {
-        self.bytes.get(i).is_some_and(|byte| *byte != 0)
     }
 
     /// Ticks the byte `i`, if there is one.

@@ -1,15 +1,16 @@
 -- Why a search ends with a shortest walk, or with none.
-use Rattle.std.proofs.Common.{◌≡◌, ℕ, zero, suc, ◌+◌, ◌-◌, ◌<◌, ◌≤◌, true, List, length, get_or, replicate, Some, None, false, sym, refl, ap, ◌∙◌, subst, ⊎_elim, add-one, arith}
+use Rattle.std.proofs.Common.{◌≡◌, ℕ, zero, suc, ◌+◌, ◌-◌, ◌<◌, ◌≤◌, Bool, true, List, length, get_or, replicate, Option, Some, None, false, sym, refl, ap, ◌∙◌, subst, ⊎_elim, add-one, arith}
 use Rattle.std.proofs.lemmas.List.{length-replicate, get_or-replicate}
 use Rattle.std.proofs.lemmas.Bool.{cases_eq, cases_lt}
-use Rattle.search.specs.Problem.{Problem, Way, Nowhere, Least}
+use Rattle.search.specs.Problem.{Problem, leads, Way, Nowhere, Least}
 use Rattle.search.specs.Problem.Walk.{stay, step}
-use Rattle.search.specs.Queue.{at, total, Sound, At, Grown, Struck, Went, Ready, Spread, Kept, Found, Fits, Born, Children, way_back}
+use Rattle.search.specs.Queue.{at, total, Sound, At, Within, Grown, Struck, Went, Ready, Spread, Kept, Found, Fits, Born, Children, way_back}
 use Rattle.search.specs.Trails.{Foremost}
+use Rattle.search.proofs.Asked.{leads_on}
 use Rattle.search.proofs.Trails.{back_trail}
 use Rattle.search.proofs.Order.{reach, before_head, order_on, order_start, foremost_on}
 use Rattle.search.specs.declared.Place.{Place}
-use Rattle.search.proofs.Frontier.{used_le, at_kept}
+use Rattle.search.proofs.Frontier.{used_le, at_kept, drop_on}
 
 -- the parents lead back along a walk
 way_below : (p : Problem) (ps : List Place) (last n i : ℕ) → ((i : ℕ) → i ≤ last → Sound p ps i (at ps i)) → i < n → i ≤ last →
@@ -42,9 +43,14 @@ module _ (p : Problem) (ts : List ℕ) (ps : List Place) (used head : ℕ) (s : 
       absurd (met b k t (reach p ts ps used head s (at ps head).depth w.start (before_head p ts ps used head s) w.begins b k w.walk m)))
       (cases_lt (at ps head).depth k)
 
+-- the nodes to which `from` leads have places
+covered : {p : Problem} {from : Option ℕ} {ps : List Place} {head d used more : ℕ} → Children p from head d ps used more p.nodes → Within ps more d →
+    (v : ℕ) → v < p.nodes → leads p from v ≡ true → At ps more v d
+covered ch w v l e = let x = ch.all v l e in record { index = x.0; below = x.1; is = x.2; depth = w x.0 x.1 }
+
 -- a scan of the place `head`
 spread_on : (p : Problem) {ts ts' : List ℕ} {ps ps' : List Place} {used more head : ℕ} → Spread p ts ps used head → head < used →
-    Went p ts ts' ps ps' used more ((at ps head).depth + 1) (λ v. p.edge (at ps head).node v ≡ true) →
+    Went p ts ts' ps ps' used more ((at ps head).depth + 1) →
     Children p (Some (at ps head).node) head ((at ps head).depth + 1) ps' used more p.nodes → Spread p ts' ps' more (head + 1)
 spread_on p {ts} {ts'} {ps} {ps'} {used} {more} {head} s l w ch =
     let same = w.grown.same in
@@ -64,7 +70,7 @@ spread_on p {ts} {ts'} {ps} {ps'} {used} {more} {head} s l w ch =
           (λ (h : head ≤ i).
           let j : i ≡ head = omega arith in
           let q : at ps' i ≡ at ps head = ap (λ x. at ps' x) j ∙ same head l in
-          let c = w.covers v k (subst (λ (y : Place). p.edge y.node v ≡ true) q e) in
+          let c = covered ch w.within v k (subst (λ (t : ℕ → Bool). t v ≡ true) (sym (leads_on p (at ps head).node (s.queue.sound head l).node)) (subst (λ (y : Place). p.edge y.node v ≡ true) q e)) in
           record { index = c.index; below = c.below; is = c.is; depth = omega (arith, c.depth, ap (λ (y : Place). y.depth) q) })
           (cases_lt i head);
       ordered = order_on p s l w.grown ch;
@@ -91,9 +97,9 @@ found p {ps' = ps'} {more = more} s l f = (
 
 -- the same, where the place is known by another name
 module _ (p : Problem) {ts ts' : List ℕ} {ps ps' : List Place} {used more head : ℕ} {from : Place} (s : Spread p ts ps used head) (l : head < used) (e : at ps head ≡ from) where
-  pub spread_more : Went p ts ts' ps ps' used more (from.depth + 1) (λ v. p.edge from.node v ≡ true) → Born p (Some from.node) head (from.depth + 1) ps' used more false → Spread p ts' ps' more (head + 1)
+  pub spread_more : Went p ts ts' ps ps' used more (from.depth + 1) → Born p (Some from.node) head (from.depth + 1) ps' used more false → Spread p ts' ps' more (head + 1)
   spread_more w b =
-      spread_on p s l (subst (λ (x : Place). Went p ts ts' ps ps' used more (x.depth + 1) (λ v. p.edge x.node v ≡ true)) (sym e) w)
+      spread_on p s l (subst (λ (x : Place). Went p ts ts' ps ps' used more (x.depth + 1)) (sym e) w)
       (subst (λ (x : Place). Born p (Some x.node) head (x.depth + 1) ps' used more false) (sym e) b)
 
   pub found_next : Struck p ts ts' ps ps' used more (from.depth + 1) → Born p (Some from.node) head (from.depth + 1) ps' used more true → (0 < more) × Found p ps' (more - 1)
@@ -103,7 +109,7 @@ module _ (p : Problem) {ts ts' : List ℕ} {ps ps' : List Place} {used more head
 
 -- no more than the first `nodes` places are written
 pub kept : (p : Problem) {ts ts' : List ℕ} {ps ps' : List Place} {used more : ℕ} → Grown p ts ts' ps ps' used more → Kept p ps ps'
-kept p g i l = g.beyond i (omega (arith, used_le _ _ _ _ g.queue))
+kept p g = drop_on _ _ _ _ (used_le _ _ _ _ g.queue) g.beyond
 
 pub total_none : (ts : List ℕ) (n : ℕ) → ((v : ℕ) → v < n → get_or ts v 0 ≡ 0) → total ts n ≡ 0
 total_none ts zero h = refl
@@ -134,14 +140,14 @@ ready_none p ts ps used n z a b e =
 
 -- once the sources are pushed the scan may begin
 pub spread_none : (p : Problem) {ts ts' : List ℕ} {ps ps' : List Place} {used more : ℕ} →
-    used ≡ 0 → Went p ts ts' ps ps' used more 0 (λ v. p.source v ≡ true) → Born p None 0 0 ps' used more false → Spread p ts' ps' more 0
+    used ≡ 0 → Went p ts ts' ps ps' used more 0 → Born p None 0 0 ps' used more false → Spread p ts' ps' more 0
 spread_none p z w b =
     record {
       queue = w.grown.queue;
       «open» = w.«open»;
       within = λ l i m. omega (arith, w.within i m);
       reached = omega arith;
-      sources = w.covers;
+      sources = covered b w.within;
       scanned = λ i l. absurd (omega arith);
       ordered = order_start p z w.grown b;
     }

@@ -1,12 +1,13 @@
 -- What a push does to the queue, and how steps follow one another.
-use Rattle.std.proofs.Common.{◌≡◌, ℕ, zero, suc, ◌+◌, ◌-◌, ◌<◌, ◌≤◌, Bool, true, false, ◌≢◌, ◌⊎◌, List, length, get_or, set, sym, refl, ap, ◌∙◌, subst, inl, inr, ⊎_elim, arith, get_or-set_other, get_or-set_same}
-use Rattle.std.proofs.lemmas.List.{length-set}
+use Rattle.std.proofs.Common.{◌≡◌, ℕ, zero, suc, ◌+◌, ◌-◌, ◌<◌, ◌≤◌, Bool, true, false, ◌≢◌, ◌⊎◌, List, length, get_or, set, drop, sym, refl, ap, ◌∙◌, subst, inl, inr, ⊎_elim, arith, get_or-set_other, get_or-set_same}
+use Rattle.std.proofs.lemmas.List.{length-set, drop-drop, drop-set-lt}
 use Rattle.std.proofs.lemmas.Bool.{both_ways, cases_eq, cases_lt}
 use Rattle.lent.specs.declared.Cleared.{Cleared}
 use Rattle.lent.specs.declared.List.{List as Places}
-use Rattle.search.specs.Problem.{Problem}
+use Rattle.search.specs.Problem.{Problem, of_node}
 use Rattle.search.specs.Queue.{blank, at, total, After, Sound, At, Open, Within, Queue, Grown, Struck, Went, Ready, Waiting, Stepped, Pushed, Lent}
 use Rattle.search.specs.declared.Place.{Place}
+use Rattle.search.proofs.Asked.{of_node_is}
 
 pub total_le : (ts : List ℕ) (n : ℕ) → ((v : ℕ) → v < n → get_or ts v 0 ≤ 1) → total ts n ≤ n
 total_le ts zero h = omega arith
@@ -51,6 +52,12 @@ marks_set ts v w k l =
     (λ (e : w ≡ v). subst (λ u. get_or (set ts v 1) u 0 ≤ 1) (sym e) (omega (arith, get_or-set_same ts v 1 0 k)))
     (λ (e : w ≡ v → ⊥). let ne : w ≢ v = e in omega (arith, get_or-set_other ts v w 1 0 ne, l))
     (cases_eq w v)
+
+-- lists that are the same from some place on are so further on
+pub drop_on : (m n : ℕ) (xs ys : List Place) → m ≤ n → drop m xs ≡ drop m ys → drop n xs ≡ drop n ys
+drop_on m n xs ys l e =
+    let k : m + (n - m) ≡ n = omega arith in
+    subst (λ j. drop j xs ≡ drop j ys) k (sym (drop-drop (n - m) m xs) ∙ ap (drop (n - m)) e ∙ drop-drop (n - m) m ys)
 
 -- there are never more places than nodes
 pub used_le : (p : Problem) (ts : List ℕ) (ps : List Place) (used : ℕ) → Queue p ts ps used → used ≤ p.nodes
@@ -164,7 +171,7 @@ module _ (p : Problem) (ts : List ℕ) (ps : List Place) (used : ℕ) (q : Place
         sized = simp length-set;
         further = omega arith;
         same = same;
-        beyond = λ i h. let ne : i ≢ used = omega arith in get_or-set_other ps used i q blank ne;
+        beyond = drop-set-lt (used + 1) ps used q (omega arith);
       }
 
   -- the last place is the new one
@@ -180,13 +187,12 @@ module _ (p : Problem) (ts : List ℕ) (ps : List Place) (used : ℕ) (q : Place
         depth = ap (λ (x : Place). x.depth) last;
       }
 
-  went_push : (p.target q.node ≡ true → ⊥) → Went p ts (set ts q.node 1) ps (set ps used q) used (used + 1) q.depth (λ v. v ≡ q.node)
+  went_push : (p.target q.node ≡ true → ⊥) → Went p ts (set ts q.node 1) ps (set ps used q) used (used + 1) q.depth
   went_push t =
       record {
         grown = pushed;
         «open» = closed;
         within = within_push;
-        covers = λ v l e. record { index = used; below = omega arith; is = ap (λ (x : Place). x.node) new ∙ sym e; depth = omega (arith, depth_new) };
       }
     where
       closed : Open p (set ps used q) (used + 1)
@@ -201,11 +207,11 @@ module _ (p : Problem) (ts : List ℕ) (ps : List Place) (used : ℕ) (q : Place
 -- a visit: a tick, a push, and the question whether this is a target
 pub stepped_push : (p : Problem) (t t' : Cleared) (l l' : Places Place) (q : Place) (hit : Bool) → Waiting p t l q.depth → Sound p l.items.now l.len q →
     get_or t.bytes.now q.node 0 ≡ 0 → t'.bytes.now ≡ set t.bytes.now q.node 1 → l'.items.now ≡ set l.items.now l.len q →
-    l'.len ≡ l.len + 1 → hit ≡ p.target q.node → Stepped p t t' l l' q.depth (λ v. v ≡ q.node) hit
+    l'.len ≡ l.len + 1 → hit ≡ of_node p p.target q.node → Stepped p t t' l l' q.depth hit
 stepped_push p t t' l l' q true r s z e f h g =
-    rw (e, f, h) (struck_push p t.bytes.now l.items.now l.len q r s z (sym g))
+    rw (e, f, h) (struck_push p t.bytes.now l.items.now l.len q r s z (sym (g ∙ of_node_is p q.node s.node p.target)))
 stepped_push p t t' l l' q false r s z e f h g =
-    rw (e, f, h) (went_push p t.bytes.now l.items.now l.len q r s z (both_ways _ (sym g)))
+    rw (e, f, h) (went_push p t.bytes.now l.items.now l.len q r s z (both_ways _ (sym (g ∙ of_node_is p q.node s.node p.target))))
 
 -- a visit writes its place behind the others
 pub put_behind : (p : Problem) (t : Cleared) (l l' : Places Place) (q : Place) → Waiting p t l q.depth → Sound p l.items.now l.len q →
@@ -224,12 +230,23 @@ at_kept same l m x =
     }
 
 module _ (p : Problem) {t₀ t₁ : List ℕ} {s₀ s₁ : List Place} {a b : ℕ} (d : ℕ) where
-  pub ready : {S : ℕ → Type 0} → Went p t₀ t₁ s₀ s₁ a b d S → Ready p t₁ s₁ b d
+  pub ready : Went p t₀ t₁ s₀ s₁ a b d → Ready p t₁ s₁ b d
   ready g = record { queue = g.grown.queue; «open» = g.«open»; within = g.within }
+
+-- a queue that grows twice
+pub grown_then : (p : Problem) {t₀ t₁ t₂ : List ℕ} {s₀ s₁ s₂ : List Place} {a b c : ℕ} → Grown p t₀ t₁ s₀ s₁ a b → Grown p t₁ t₂ s₁ s₂ b c → Grown p t₀ t₂ s₀ s₂ a c
+grown_then p g h =
+    record {
+      queue = h.queue;
+      sized = h.sized ∙ g.sized;
+      further = omega (arith, g.further, h.further);
+      same = λ i l. h.same i (omega (arith, g.further)) ∙ g.same i l;
+      beyond = h.beyond ∙ drop_on _ _ _ _ h.further g.beyond;
+    }
 
 -- what a loop over nodes keeps: no target was met, on the same lent memory
 abbrev pub Turn : Problem → Cleared → Cleared → Places Place → Places Place → ℕ → Type 0
-Turn p t t' q q' d = Stepped p t t' q q' d (λ _. ⊥) false × Lent t t' q q'
+Turn p t t' q q' d = Stepped p t t' q q' d false × Lent t t' q q'
 
 pub lent_then : {a b c d e f : ℕ} → (b ≡ a) × (e ≡ d) → (c ≡ b) × (f ≡ e) → (c ≡ a) × (f ≡ d)
 lent_then g h = (h.0 ∙ g.0, h.1 ∙ g.1)

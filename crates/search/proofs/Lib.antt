@@ -1,3 +1,4 @@
+pub mod Asked
 pub mod Frontier
 pub mod Trails
 pub mod Children

@@ -1,5 +1,5 @@
 -- Why the way back from the place that is found is the first of the shortest walks.
-use Rattle.std.proofs.Common.{◌≡◌, ℕ, suc, ◌+◌, ◌-◌, ◌<◌, ◌≤◌, true, false, ◌⊎◌, List, [], ◌∷◌, length, Some, None, sym, refl, ap, ◌∙◌, subst, subst₂, inl, inr, ⊎_elim, add-one, arith}
+use Rattle.std.proofs.Common.{◌≡◌, ℕ, suc, ◌+◌, ◌-◌, ◌<◌, ◌≤◌, Bool, true, false, ◌⊎◌, List, [], ◌∷◌, length, Some, None, sym, refl, ap, ◌∙◌, subst, subst₂, inl, inr, ⊎_elim, add-one, arith}
 use Rattle.std.proofs.lemmas.Bool.{cases_eq, cases_lt}
 use Rattle.search.specs.Problem.{Problem, Walk}
 use Rattle.search.specs.Problem.Walk.{stay, step}
@@ -7,6 +7,7 @@ use Rattle.search.specs.Trails.{Trail, Before, NotAfter, Foremost}
 use Rattle.search.specs.Trails.Trail.{begin, onward}
 use Rattle.search.specs.Queue.{at, way_back, At, Children, Born, Grown, Struck, Ordered, Spread}
 use Rattle.search.specs.declared.Place.{Place}
+use Rattle.search.proofs.Asked.{leads_on}
 use Rattle.search.proofs.Trails.{before_then, behind, lower, trail_way, back_length, back_on, back_start, way_same}
 
 -- ---- walks by their nodes, taken apart
@@ -163,7 +164,7 @@ module _ (p : Problem) {ts : List ℕ} {ps : List Place} {used head : ℕ} (s : 
         (λ (h : (z.before ≡ (at ps head).node) × NotAfter (way_back ps head) z.nodes).
         ⊎_elim
         (λ (k : c < v + 1).
-        let x = ch.all c k (subst (λ u. p.edge u c ≡ true) h.0 z.edge) in
+        let x = ch.all c k (subst (λ (e : ℕ → Bool). e c ≡ true) (sym (leads_on p (at ps head).node (s.queue.sound head l).node)) (subst (λ u. p.edge u c ≡ true) h.0 z.edge)) in
         ⊎_elim
         (λ (m : x.0 < more - 1). absurd (b.1 x.0 m (subst (λ u. p.target u ≡ true) (sym x.2) t)))
         (λ (m : more - 1 ≤ x.0).

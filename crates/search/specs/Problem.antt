@@ -1,5 +1,5 @@
 -- Graphs on the numbers below `nodes`, and their walks.
-use Rattle.std.specs.Prelude.{◌≡◌, ℕ, suc, ◌<◌, ◌≤◌, Bool, true, false, not, ◌&&◌, Option, Some, None, MatchOption}
+use Rattle.std.specs.Prelude.{◌≡◌, ℕ, suc, ◌<◌, ◌≤◌, Bool, true, false, not, ◌&&◌, Option, Some, None, MatchOption, nat_lt}
 
 -- a graph, with the nodes where a walk may begin and those where it should end
 pub record Problem : Type 0 where
@@ -23,10 +23,14 @@ First test start end r = MatchOption r ((v : ℕ) → start ≤ v → v < end �
 abbrev pub outside : (ℕ → Bool) → (ℕ → Bool) → ℕ → Bool
 outside set test v = test v && not (set v)
 
+-- what a test says of a node; it says nothing of a number that is none
+abbrev pub of_node : Problem → (ℕ → Bool) → ℕ → Bool
+of_node p test v = nat_lt v p.nodes && test v
+
 -- whether an edge leads from a node to v, or whether v is a source where no node is given
 abbrev pub leads : Problem → Option ℕ → ℕ → Bool
 leads p None v = p.source v
-leads p (Some u) v = p.edge u v
+leads p (Some u) v = of_node p (λ w. p.edge w v) u
 
 -- a walk of k edges from a to b
 pub data Walk (p : Problem) (a : ℕ) : ℕ → ℕ → Type 0 where

@@ -1,5 +1,5 @@
 -- What the ticks and the places say while a search goes on.
-use Rattle.std.specs.Prelude.{◌≡◌, ℕ, zero, suc, ◌+◌, ◌-◌, ◌<◌, ◌≤◌, Bool, true, false, not, ◌==◌, List, [], ◌∷◌, length, Ok, Err, Option, Result, MatchOption, ◌≢◌, slice_index, slice_index_or}
+use Rattle.std.specs.Prelude.{◌≡◌, ℕ, zero, suc, ◌+◌, ◌-◌, ◌<◌, ◌≤◌, Bool, true, false, not, ◌==◌, List, [], ◌∷◌, length, drop, Ok, Err, Option, Result, MatchOption, ◌≢◌, slice_index, slice_index_or}
 use Rattle.lent.specs.declared.Cleared.{Cleared}
 use Rattle.lent.specs.declared.List.{List as Places}
 use Rattle.search.specs.Problem.{Problem, leads, Way, Nowhere, Least}
@@ -79,7 +79,7 @@ pub record Grown (p : Problem) (ts ts' : List ℕ) (ps ps' : List Place) (used m
   pub sized : length ts' ≡ length ts
   pub further : used ≤ more
   pub same : (i : ℕ) → i < used → at ps' i ≡ at ps i
-  pub beyond : (i : ℕ) → more ≤ i → at ps' i ≡ at ps i
+  pub beyond : drop more ps' ≡ drop more ps
 
 -- the last place is a target, at the depth d
 pub record Struck (p : Problem) (ts ts' : List ℕ) (ps ps' : List Place) (used more d : ℕ) : Type 0 where
@@ -88,12 +88,11 @@ pub record Struck (p : Problem) (ts ts' : List ℕ) (ps ps' : List Place) (used 
   pub target : p.target (at ps' (more - 1)).node ≡ true
   pub depth : (at ps' (more - 1)).depth ≡ d
 
--- no target was met, and each node of S has a place of depth d at most
-pub record Went (p : Problem) (ts ts' : List ℕ) (ps ps' : List Place) (used more d : ℕ) (S : ℕ → Type 0) : Type 0 where
+-- no target was met, and no place is deeper than d
+pub record Went (p : Problem) (ts ts' : List ℕ) (ps ps' : List Place) (used more d : ℕ) : Type 0 where
   pub grown : Grown p ts ts' ps ps' used more
   pub «open» : Open p ps' more
   pub within : Within ps' more d
-  pub covers : (v : ℕ) → v < p.nodes → S v → At ps' more v d
 
 -- the place q is at the depth d, reached from the place `head`, of a node below `bound`
 pub record Child (head d bound : ℕ) (q : Place) : Type 0 where
@@ -137,7 +136,7 @@ pub record Spread (p : Problem) (ts : List ℕ) (ps : List Place) (used head : �
 
 -- no more than the first `nodes` places are written
 abbrev pub Kept : Problem → List Place → List Place → Type 0
-Kept p ps ps' = (i : ℕ) → p.nodes ≤ i → at ps' i ≡ at ps i
+Kept p ps ps' = drop p.nodes ps' ≡ drop p.nodes ps
 
 -- the place `last` ends a shortest walk from a source to a target, and the parents lead back along it; no other as short comes before it
 pub record Found (p : Problem) (ps : List Place) (last : ℕ) : Type 0 where
@@ -162,10 +161,10 @@ Answered p ts ps ps' (Err _) = (Fits p ts ps → ⊥) × (ps' ≡ ps)
 abbrev pub Waiting : Problem → Cleared → Places Place → ℕ → Type 0
 Waiting p t q d = Ready p t.bytes.now q.items.now q.len d
 
--- a part of a search met a target, or went over the nodes of S
-abbrev pub Stepped : Problem → Cleared → Cleared → Places Place → Places Place → ℕ → (ℕ → Type 0) → Bool → Type 0
-Stepped p t t' q q' d S true = Struck p t.bytes.now t'.bytes.now q.items.now q'.items.now q.len q'.len d
-Stepped p t t' q q' d S false = Went p t.bytes.now t'.bytes.now q.items.now q'.items.now q.len q'.len d S
+-- a part of a search met a target, or none
+abbrev pub Stepped : Problem → Cleared → Cleared → Places Place → Places Place → ℕ → Bool → Type 0
+Stepped p t t' q q' d true = Struck p t.bytes.now t'.bytes.now q.items.now q'.items.now q.len q'.len d
+Stepped p t t' q q' d false = Went p t.bytes.now t'.bytes.now q.items.now q'.items.now q.len q'.len d
 
 -- the memory is still the one that was lent
 abbrev pub Lent : Cleared → Cleared → Places Place → Places Place → Type 0

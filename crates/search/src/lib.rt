@@ -2,8 +2,8 @@
 
 #![tactic(auto)]
 
-ghost use Rattle.std.specs.Prelude.{◌≡◌, ℕ, ◌+◌, ◌<◌, Bool, true, false, ◌||◌, ◌==◌, IfSome, length, replicate, slice_index};
-ghost use Rattle.search.specs.Problem.{Problem, First, outside, leads};
+ghost use Rattle.std.specs.Prelude.{◌≡◌, ℕ, ◌+◌, ◌<◌, Bool, true, false, ◌||◌, ◌==◌, Some, length, replicate, slice_index};
+ghost use Rattle.search.specs.Problem.{Problem, First, outside, of_node, leads};
 ghost use Rattle.search.specs.Queue.{at, Sound, Waiting, Stepped, Born, Pushed, Lent, Ticked, Ended, Kept, Answered};
 
 use lent::{Cleared, List};
@@ -46,15 +46,13 @@ pub trait Graph {
     fn first_source(&self, reached: &Self::Nodes) -> Option<u16>
         ensures { First (outside (holds self.now reached.now) (problem self.now).source) 0 (problem self.now).nodes result };
 
-    /// The first node outside a set to which an edge leads.
-    // This and `target` ask for a node: which numbers are nodes depends on the graph.
+    /// The first node outside a set to which an edge leads; none leads from a number that is no node.
     fn first_edge(&self, from: u16, reached: &Self::Nodes) -> Option<u16>
-        requires { from < (problem self.now).nodes }
-        ensures { First (outside (holds self.now reached.now) ((problem self.now).edge from)) 0 (problem self.now).nodes result };
+        ensures { First (outside (holds self.now reached.now) (leads (problem self.now) (Some from))) 0 (problem self.now).nodes result };
 
+    /// Whether a number is a node where a walk should end.
     fn target(&self, node: u16) -> bool
-        requires { node < (problem self.now).nodes }
-        ensures { result ≡ (problem self.now).target node };
+        ensures { result ≡ of_node (problem self.now) (problem self.now).target node };
 }
 
 /// Pushes a place of a node that has none, and says whether the node is a target.
@@ -71,7 +69,7 @@ fn visit<G: Graph>(
     requires fresh { slice_index ticks.old.bytes.now place.node ≡ 0 }
     requires same { Ticked (G.problem graph.now) ticks.old (G.holds graph.now reached.old) }
     ensures lent { Lent ticks.old ticks.new places.old places.new }
-    ensures stepped { Stepped (G.problem graph.now) ticks.old ticks.new places.old places.new place.depth (λ v. v ≡ place.node) result }
+    ensures stepped { Stepped (G.problem graph.now) ticks.old ticks.new places.old places.new place.depth result }
     ensures same { Ticked (G.problem graph.now) ticks.new (G.holds graph.now reached.new) }
     ensures pushed { Pushed places.old places.new place }
 {
@@ -85,7 +83,6 @@ fn visit<G: Graph>(
 /// The first node outside a set to which an edge leads from a node, or the first source where none is given.
 // No closure for the two, which `visit_all` would take: its contract would have to say for any closure what that finds.
 fn next_node<G: Graph>(graph: &G, from: Option<u16>, reached: &G::Nodes) -> Option<u16>
-    requires { IfSome from (λ node. node < (G.problem graph.now).nodes) }
     ensures { First (outside (G.holds graph.now reached.now) (leads (G.problem graph.now) from)) 0 (G.problem graph.now).nodes result }
 {
     match from {
@@ -94,7 +91,7 @@ fn next_node<G: Graph>(graph: &G, from: Option<u16>, reached: &G::Nodes) -> Opti
     }
 }
 
-/// Visits the nodes without a tick to which an edge leads from a node, or the sources where none is given, until one is a target.
+/// Visits the nodes outside a set to which an edge leads from a node, or the sources where none is given, until one is a target.
 fn visit_all<G: Graph>(
     graph: &G,
     ticks: &mut Cleared<'_>,
@@ -105,11 +102,10 @@ fn visit_all<G: Graph>(
     depth: u16,
 ) -> bool
     requires ready { Waiting (G.problem graph.now) ticks.old places.old depth }
-    requires asked { IfSome from (λ node. node < (G.problem graph.now).nodes) }
     requires sound { (v : ℕ) → v < (G.problem graph.now).nodes → leads (G.problem graph.now) from v ≡ true → Sound (G.problem graph.now) places.old.items.now places.old.len (record { node = v; parent = parent; depth = depth }) }
     requires same { Ticked (G.problem graph.now) ticks.old (G.holds graph.now reached.old) }
     ensures lent { Lent ticks.old ticks.new places.old places.new }
-    ensures stepped { Stepped (G.problem graph.now) ticks.old ticks.new places.old places.new depth (λ v. leads (G.problem graph.now) from v ≡ true) result }
+    ensures stepped { Stepped (G.problem graph.now) ticks.old ticks.new places.old places.new depth result }
     ensures same { Ticked (G.problem graph.now) ticks.new (G.holds graph.now reached.new) }
     ensures born { Born (G.problem graph.now) from parent depth places.new.items.now places.old.len places.new.len result }
 {
@@ -141,7 +137,7 @@ fn start<G: Graph>(
     requires ready { Waiting (G.problem graph.now) ticks.old places.old 0 }
     requires same { Ticked (G.problem graph.now) ticks.old (G.holds graph.now reached.old) }
     ensures lent { Lent ticks.old ticks.new places.old places.new }
-    ensures stepped { Stepped (G.problem graph.now) ticks.old ticks.new places.old places.new 0 (λ v. (G.problem graph.now).source v ≡ true) result }
+    ensures stepped { Stepped (G.problem graph.now) ticks.old ticks.new places.old places.new 0 result }
     ensures same { Ticked (G.problem graph.now) ticks.new (G.holds graph.now reached.new) }
     ensures born { Born (G.problem graph.now) None 0 0 places.new.items.now places.old.len places.new.len result }
 {
@@ -162,7 +158,7 @@ fn scan<G: Graph>(
     requires here { at places.old.items.now head ≡ from }
     requires same { Ticked (G.problem graph.now) ticks.old (G.holds graph.now reached.old) }
     ensures lent { Lent ticks.old ticks.new places.old places.new }
-    ensures stepped { Stepped (G.problem graph.now) ticks.old ticks.new places.old places.new (from.depth + 1) (λ v. (G.problem graph.now).edge from.node v ≡ true) result }
+    ensures stepped { Stepped (G.problem graph.now) ticks.old ticks.new places.old places.new (from.depth + 1) result }
     ensures same { Ticked (G.problem graph.now) ticks.new (G.holds graph.now reached.new) }
     ensures born { Born (G.problem graph.now) (Some from.node) head (from.depth + 1) places.new.items.now places.old.len places.new.len result }
 {
@@ -220,7 +216,8 @@ pub fn search<G: Graph>(
     if marks.len() < nodes || room < nodes {
         return Err(TooShort);
     }
-    // The ticked nodes once more, in the form in which the graph can look for others.
+    // What was reached is kept twice: the ticks are lent memory, to be handed back zero, and count the places, so that a push has room;
+    // the set is the form in which the graph finds the next node.
     let mut reached = graph.no_nodes();
     // No second answer beside the test: the target that was met is the last place.
     if explore(graph, &mut marks, &mut reached, &mut queue) {

@@ -1,5 +1,5 @@
 -- The next node of a graph of contexts at phases that is outside a set of nodes.
-use Rattle.std.proofs.Common.{◌≡◌, ℕ, ◌+◌, ◌-◌, ◌*◌, ◌/◌, ◌%◌, ◌<◌, ◌≤◌, Bool, false, not, ◌&&◌, leb, List, get_or, Some, None, sym, ap, ap₂, ◌∙◌, subst, ⊎_elim, arith, mod-lt, Option}
+use Rattle.std.proofs.Common.{◌≡◌, ℕ, ◌+◌, ◌-◌, ◌*◌, ◌/◌, ◌%◌, ◌<◌, ◌≤◌, Bool, false, not, ◌&&◌, leb, List, get_or, Some, None, true, refl, sym, ap, ap₂, ◌∙◌, subst, ⊎_elim, arith, mod-lt, Option}
 use Rattle.std.proofs.lemmas.Bool.{cases_lt, and_left, le-leb, lt-leb, eq-eqb, ne_eqb}
 use Rattle.std.proofs.Math.Nat.{mul-le-mul_right}
 use Rattle.std.proofs.lemmas.Nat.{div-mul-add, div-add-mod'}
@@ -74,6 +74,11 @@ module _ (n : ℕ) (some : 1 ≤ n) where
           passes = source_in v below ∙ first.passes;
           before = λ u low high. source_in u (omega arith) ∙ first.before u (omega arith) high;
         }
+
+-- where no edge leads, none does from a node
+pub none_either : (node led held : Bool) → (led && not held) ≡ false → ((node && led) && not held) ≡ false
+none_either false led held e = refl
+none_either true led held e = e
 
 -- no edge leads from u to a node outside a set, below the phase q
 abbrev pub NoneBelow : Search → Meaning → Grants → (ℕ → Bool) → ℕ → ℕ → Type 0

@@ -9,7 +9,7 @@ use Rattle.verdicts.specs.Runs.{Grants}
 use Rattle.verdicts.specs.Activities.{Move}
 use Rattle.verdicts.specs.Searches.{Search}
 use Rattle.search.specs.Problem.{Problem}
-use Rattle.search.specs.Queue.{at, Found as FoundPlace, Answered, Fits, Outcome}
+use Rattle.search.specs.Queue.{at, Found as FoundPlace, Answered, Fits, Outcome, Kept}
 use Rattle.search.specs.declared.TooShort.{TooShort}
 use Rattle.search.specs.declared.Place.{Place}
 use Rattle.moves.specs.Regimes.{meaning_of, grants_of}
@@ -32,11 +32,12 @@ use Rattle.activities.proofs.Rests.{same_rest}
 
 -- what a search over a chart answered, if it was not refused
 pub told : {X P : Type 0} {A : Activity X} {B : Policy P} (chart : Chart X P A B) {moves : Moves P B} {from to : ContextSet} → chart.moves.now ≡ moves → chart.from ≡ from → chart.to ≡ to
-    → {ts : List ℕ} {ps : List Place} (ps' : List Place) (found : Option ℕ) {result : Result (Option ℕ) TooShort} → result ≡ Ok found → Answered (problem_of chart) ts ps ps' result
-    → let p = plan A.kind (meaning_of B.meaning moves.regime) (grants_of moves.regime) (member from) (member to) in Fits p ts ps × Outcome p ps' found
-told {A = A} {B = B} chart {moves} {from} {to} is starts leads {ts} {ps} ps' found e a =
+    → {ts : List ℕ} {ps : List Place} (ps' : List Place) (found : Option ℕ) {result : Result (Option ℕ) TooShort} → result ≡ Ok found → Answered (problem_of chart) ts ps ps' result → Kept (problem_of chart) ps ps'
+    → let p = plan A.kind (meaning_of B.meaning moves.regime) (grants_of moves.regime) (member from) (member to) in Fits p ts ps × Outcome p ps' found × Kept p ps ps'
+told {A = A} {B = B} chart {moves} {from} {to} is starts leads {ts} {ps} ps' found e a k =
     let p : problem_of chart ≡ plan A.kind (meaning_of B.meaning moves.regime) (grants_of moves.regime) (member from) (member to) = cc in
-    subst (λ x. Fits x ts ps × Outcome x ps' found) p (subst (Answered (problem_of chart) ts ps ps') e a)
+    let b = subst (Answered (problem_of chart) ts ps ps') e a in
+    subst (λ x. Fits x ts ps × Outcome x ps' found × Kept x ps ps') p (b.0, b.1, k)
 
 module _ (m : Meaning) (gs : Grants) (l : Sound m) {kind : Search} {back : Bool} {activities : ℕ → ℕ → List Move → Type 0} (laws : KindLaws kind back activities) (A B : ℕ → Bool) where
   abbrev n : ℕ

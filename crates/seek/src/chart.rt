@@ -110,6 +110,7 @@ impl<A: Activity, P: Policy> Graph for Chart<'_, A, P> {
 
     fn first_edge(&self, from: u16, reached: &[ContextSet; 2]) -> Option<u16> {
         let context = self.context_of(from);
+        // No phase is left to go over from a number that is no node.
         for phase in self.phase_of(from)..A::PHASES {
             let next = self
                 .moves
@@ -123,6 +124,6 @@ impl<A: Activity, P: Policy> Graph for Chart<'_, A, P> {
     }
 
     fn target(&self, node: u16) -> bool {
-        self.to.has(self.context_of(node))
+        node < self.nodes() && self.to.has(self.context_of(node))
     }
 }

@@ -13,7 +13,7 @@ use moves::moves::Moves;
 use search::{Place, search};
 
 /// How many moves a shortest activity of a kind has from a context of one set to a context of another, or `None` where there
-/// is no such activity of any length.
+/// is no such activity of any length. Of `places` no more is written than by `seek`.
 pub fn measure<'a, A: Activity, P: Policy>(
     moves: &'a Moves<'a, P>,
     from: ContextSet,

@@ -48,11 +48,11 @@ is_12 why.UnfitName e = absurd (omega arith)
 
 -- memory suffices exactly where it is not too short
 enough : (n : ℕ) (ts : List ℕ) (ps : List Place) (ss : List Step) → Suffices 2 n ts ps ss → short n (length ts) (length ps) (length ss) ≡ false
-enough n ts ps ss s = let a = s.ticks_fit in let b = s.places_fit in let d = s.steps_fit in grind (arith, nat_tests)
+enough n ts ps ss s = grind (arith, nat_tests)
 
 scarce : (n : ℕ) (ts : List ℕ) (ps : List Place) (ss : List Step) → (Suffices 2 n ts ps ss → ⊥) → short n (length ts) (length ps) (length ss) ≡ true
 scarce n ts ps ss h =
-    true_from_ne_false (short n (length ts) (length ps) (length ss)) (λ e. h (record { ticks_fit = grind (arith, nat_tests); places_fit = grind (arith, nat_tests); steps_fit = grind (arith, nat_tests) }))
+    true_from_ne_false (short n (length ts) (length ps) (length ss)) (λ e. h (grind (arith, nat_tests)))
 
 -- the sets of a fit property are of contexts
 is_false : (b : Bool) → not b ≡ true → b ≡ false

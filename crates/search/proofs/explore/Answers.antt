@@ -29,7 +29,7 @@ returns-then-scan-clause-ended g c =
 
 pub returns-then-scan-clause-kept : goal.returns-then-scan-clause-kept
 returns-then-scan-clause-kept g c =
-    λ i l. kept _ c.if-scan.ensures.stepped.grown i l ∙ c.loop-head.invariant.3 i l
+    kept _ c.if-scan.ensures.stepped.grown ∙ c.loop-head.invariant.3
 
 pub loop-head-preserved : goal.loop-head-preserved
 loop-head-preserved g c =
@@ -37,7 +37,7 @@ loop-head-preserved g c =
       spread_more _ c.loop-head.invariant.0 c.in-Some.ensures.0 (here _ _ _ _ c.loop-head.places.within c.in-Some.ensures) s.stepped s.born,
       lent_then c.loop-head.invariant.1 s.lent,
       s.stepped.grown.sized ∙ c.loop-head.invariant.2,
-      λ i l. kept _ s.stepped.grown i l ∙ c.loop-head.invariant.3 i l,
+      kept _ s.stepped.grown ∙ c.loop-head.invariant.3,
       s.same,
     )
 
