@@ -1,29 +1,26 @@
 -- From a judging of what a sheet holds to one of the book that it shows.
-use Rattle.std.proofs.Common.{◌≡◌, ℕ, Bool, true, false, cond, not, List, [], ◌∷◌, length, Some, None, Ok, Err, Option, Result, sym, refl, ap, ◌∙◌, subst, arith}
-use Rattle.std.proofs.lemmas.Bool.{or_parts, true_from_ne_false}
+use Rattle.std.proofs.Common.{◌≡◌, ℕ, Bool, true, false, cond, List, [], ◌∷◌, length, Some, None, Ok, Err, Option, Result, sym, refl, ap, ◌∙◌, subst, arith}
+use Rattle.std.proofs.lemmas.Bool.{true_from_ne_false}
 use Rattle.std.proofs.lemmas.Bool.Decides.{nat_tests}
-use Rattle.access.specs.declared.context_set.ContextSet.{ContextSet}
-use Rattle.access.specs.Contexts.{inside, member, has_above, empty}
-use Rattle.access.proofs.ContextLaws.{none_above}
+use Rattle.access.specs.Contexts.{inside}
 use Rattle.std.specs.Option.{ok_or}
 use Rattle.access.specs.Refusals.{refusal_number, first_of}
 use Rattle.access.specs.declared.refusal.Refusal.{Refusal}
 use Rattle.access.specs.declared.refusal.Refusal.TheVariants as why
-use Rattle.verdicts.specs.Laws.{AllInside, OfContexts}
 use Rattle.search.specs.declared.Place.{Place}
 use Rattle.moves.specs.Grants.{standing}
 use Rattle.moves.specs.declared.grant.Grant.{Grant}
 use Rattle.moves.specs.declared.step.Step.{Step}
 use Rattle.seek.specs.Sought.{Suffices}
 use Rattle.properties.specs.declared.property.Property.{Property}
-use Rattle.properties.specs.declared.property.Template.{Template}
-use Rattle.properties.specs.declared.property.Template.TheVariants.{Integrity, Confidentiality, Domain, Consistency}
-use Rattle.judge.specs.Judged.{forbidding, property_of, Answered}
+use Rattle.properties.specs.Fitness.{property_refusal}
+use Rattle.judge.specs.Judged.{property_of, Answered}
+use Rattle.judge.proofs.Fit.{of_contexts}
 use Rattle.judge.specs.declared.verdict.Verdict.{Verdict}
 use Rattle.entries.specs.Entries.{in_order}
 use Rattle.entries.specs.Standing.{entry_at}
-use Rattle.sheet.specs.Book.{Book, unfit, unfit_second, short, refusal}
-use Rattle.sheet.specs.Judging.{fits, AllFit, standing_grants, Judges}
+use Rattle.sheet.specs.Book.{Book, short, refusal}
+use Rattle.sheet.specs.Judging.{AllFit, standing_grants, Judges}
 use Rattle.sheet.specs.declared.request.Request.TheVariants.{Judge}
 
 -- only one refusal has number 12
@@ -54,23 +51,6 @@ scarce : (n : ℕ) (ts : List ℕ) (ps : List Place) (ss : List Step) → (Suffi
 scarce n ts ps ss h =
     true_from_ne_false (short n (length ts) (length ps) (length ss)) (λ e. h (record { ticks_fit = grind (arith, nat_tests); places_fit = grind (arith, nat_tests); steps_fit = grind (arith, nat_tests) }))
 
--- the sets of a fit property are of contexts
-is_false : (b : Bool) → not b ≡ true → b ≡ false
-is_false false e = refl
-is_false true e = sym e
-
-of_contexts : (n : ℕ) (p : Property) → fits n (Some p) ≡ true → OfContexts n (property_of p)
-of_contexts n p e = let f = or_parts (unfit n p.first) (unfit_second n p.template p.second) (is_false _ e) in go p.template p.first p.second f.0 f.1
-  where
-    fit_set : (s : ContextSet) → unfit n s ≡ false → AllInside n (member s)
-    fit_set s e = none_above n s (or_parts (has_above n s) (empty s) e).0
-
-    go : (t : Template) (a b : ContextSet) → unfit n a ≡ false → unfit_second n t b ≡ false → OfContexts n (forbidding t (member a) (member b))
-    go Integrity a b f g = (fit_set a f, fit_set b g)
-    go Confidentiality a b f g = (fit_set a f, fit_set b g)
-    go Domain a b f g = tt
-    go Consistency a b f g = (fit_set a f, fit_set b g)
-
 -- a number has an entry where it is in range and one stands
 entry_parts : {E : Type 0} (r : Bool) (o : Option E) (e : E) → Ok e ≡ cond r (ok_or o why.StandsNot) (Err why.NumberOutside) → (r ≡ true) × (o ≡ Some e)
 entry_parts true (Some x) e is = (refl, cc)
@@ -79,7 +59,7 @@ entry_parts false o e is = absurd (grind arith)
 
 module _ (k : ℕ) (ts : List ℕ) (ps ps' : List Place) (ss ss' : List Step) where
   -- in a book that has property k standing, whose sets are fit
-  judges : (b : Book) (p : Property) → inside 64 k ≡ true → b.properties k ≡ Some p → fits b.policy.contexts (Some p) ≡ true → (r : Result Verdict Refusal)
+  judges : (b : Book) (p : Property) → inside 64 k ≡ true → b.properties k ≡ Some p → property_refusal b.policy.contexts p ≡ None → (r : Result Verdict Refusal)
       → Answered b.policy (standing_grants b) (property_of p) ts ps ps' ss ss' r → Judges b k ts ps ps' ss ss' r
   judges b p ranged stands fit r a = go r a
     where
@@ -95,5 +75,5 @@ module _ (k : ℕ) (ts : List ℕ) (ps ps' : List Place) (ss ss' : List Step) wh
       → (r : Result Verdict Refusal) → Answered b.policy (standing gs 0) (property_of p) ts ps ps' ss ss' r → Judges b k ts ps ps' ss ss' r
   judges_found b fit p gs is found r a =
       let parts = entry_parts (inside 64 k) (b.properties k) p found in
-      judges b p parts.0 parts.1 (subst (λ (o : Option Property). fits b.policy.contexts o ≡ true) parts.1 (fit k)) r
+      judges b p parts.0 parts.1 (fit k p parts.1) r
       (subst (λ (l : List (Option Grant)). Answered b.policy (standing l 0) (property_of p) ts ps ps' ss ss' r) is a)
