@@ -3,5 +3,6 @@ mod Nexts
 mod Lines
 mod Turns
 mod Puts
+mod Memory
 mod Sought
 pub mod Settled

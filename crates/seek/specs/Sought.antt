@@ -1,5 +1,5 @@
 -- What seeking answers.
-use Rattle.std.specs.Prelude.{◌≡◌, ℕ, ◌*◌, ◌≤◌, Bool, List, length, Ok, Err, Option, Result}
+use Rattle.std.specs.Prelude.{◌≡◌, ℕ, ◌*◌, Bool, true, false, ◌||◌, List, length, Ok, Err, Option, Result, nat_lt}
 use Rattle.access.specs.Policy.{Meaning}
 use Rattle.access.specs.Refusals.{refusal_number}
 use Rattle.access.specs.declared.refusal.Refusal.{Refusal}
@@ -10,24 +10,28 @@ use Rattle.moves.specs.declared.step.Step.{Step}
 use Rattle.activities.specs.Found.{Leads, Measured, Searched}
 use Rattle.seek.specs.Plan.{among}
 
--- the lent memory suffices: a tick and a place for each context in each phase, and a step for each context
-pub record Suffices (phases n : ℕ) (ticks : List ℕ) (places : List Place) (steps : List Step) : Type 0 where
-  pub ticks_fit : phases * n ≤ length ticks
-  pub places_fit : phases * n ≤ length places
-  pub steps_fit : n ≤ length steps
+-- so many ticks and places are too few for measuring, which needs one of each for each of n contexts in each phase
+abbrev pub too_few : ℕ → ℕ → ℕ → ℕ → Bool
+too_few phases n ticks places = nat_lt ticks (phases * n) || nat_lt places (phases * n)
 
--- refused with 12 exactly where the memory does not suffice, the places and the steps as before; else what the search found of
+-- the lent memory is too short for seeking, which needs a step for each context besides
+abbrev pub short : ℕ → ℕ → ℕ → ℕ → ℕ → Bool
+short phases n ticks places steps = too_few phases n ticks places || nat_lt steps n
+
+-- the lent ticks and places are enough for measuring, and with the lent steps for seeking
+abbrev pub SearchRoom : ℕ → ℕ → List ℕ → List Place → Type 0
+SearchRoom phases n ts ps = too_few phases n (length ts) (length ps) ≡ false
+
+abbrev pub Suffices : ℕ → ℕ → List ℕ → List Place → List Step → Type 0
+Suffices phases n ts ps ss = short phases n (length ts) (length ps) (length ss) ≡ false
+
+-- refused with 12 exactly where the memory is too short, the places and the steps as before; else what the search found of
 -- the activities that lead from a context of A to one of B
 abbrev pub Answered : ℕ → Meaning → Grants → (ℕ → ℕ → List Move → Type 0) → (ℕ → Bool) → (ℕ → Bool) → List ℕ → List Place → List Place → List Step → List Step → Result (Option ℕ) Refusal → Type 0
 Answered phases m gs activities A B ts ps ps' ss ss' (Ok r) = Suffices phases m.contexts ts ps ss × Searched m gs (Leads activities (among m.contexts A) B) ss ss' r
-Answered phases m gs activities A B ts ps ps' ss ss' (Err why) = (refusal_number why ≡ 12) × (Suffices phases m.contexts ts ps ss → ⊥) × (ps' ≡ ps) × (ss' ≡ ss)
+Answered phases m gs activities A B ts ps ps' ss ss' (Err why) = (refusal_number why ≡ 12) × (short phases m.contexts (length ts) (length ps) (length ss) ≡ true) × (ps' ≡ ps) × (ss' ≡ ss)
 
--- there is a tick and a place for each context in each phase
-pub record SearchRoom (phases n : ℕ) (ticks : List ℕ) (places : List Place) : Type 0 where
-  pub ticks_fit : phases * n ≤ length ticks
-  pub places_fit : phases * n ≤ length places
-
--- refused with 12 exactly where there is none, the places as before; else how many moves the shortest of those activities has
+-- refused with 12 exactly where ticks or places are too few, the places as before; else how many moves the shortest of those activities has
 abbrev pub ToldLength : ℕ → Meaning → Grants → (ℕ → ℕ → List Move → Type 0) → (ℕ → Bool) → (ℕ → Bool) → List ℕ → List Place → List Place → Result (Option ℕ) Refusal → Type 0
 ToldLength phases m gs activities A B ts ps ps' (Ok r) = SearchRoom phases m.contexts ts ps × Measured m gs (Leads activities (among m.contexts A) B) r
-ToldLength phases m gs activities A B ts ps ps' (Err why) = (refusal_number why ≡ 12) × (SearchRoom phases m.contexts ts ps → ⊥) × (ps' ≡ ps)
+ToldLength phases m gs activities A B ts ps ps' (Err why) = (refusal_number why ≡ 12) × (too_few phases m.contexts (length ts) (length ps) ≡ true) × (ps' ≡ ps)

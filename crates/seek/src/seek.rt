@@ -3,7 +3,7 @@ ghost use Rattle.std.specs.Prelude.{◌≡◌, length, replicate};
 ghost use Rattle.access.specs.Contexts.{member};
 ghost use Rattle.moves.specs.Regimes.{meaning_of, grants_of};
 ghost use Rattle.seek.specs.Settled.{ShowsFirst, SameSteps};
-ghost use Rattle.seek.specs.Sought.{Answered};
+ghost use Rattle.seek.specs.Sought.{Answered, short};
 
 use crate::chart::Chart;
 use crate::way::Way;
@@ -15,6 +15,15 @@ use lent::Cleared;
 use moves::moves::Moves;
 use moves::step::Step;
 use search::{Place, search};
+
+/// Whether lent memory is too short for seeking: a tick and a place for each context in each phase, and a step for each context.
+pub fn is_short(phases: u16, contexts: u16, ticks: &[u8], places: &[Place], steps: &[Step]) -> bool
+    ensures { result ≡ short phases contexts (length ticks.now) (length places.now) (length steps.now) }
+{
+    let n = usize::from(contexts);
+    let nodes = usize::from(phases) * n;
+    ticks.len() < nodes || places.len() < nodes || steps.len() < n
+}
 
 /// Seeks a shortest activity of a kind from a context of one set to a context of another, over the moves that some legal run
 /// of the policy with the standing grants makes. It answers how many steps the activity has, which then stand in front of
@@ -34,7 +43,7 @@ pub fn seek<'a, A: Activity, P: Policy>(
     ensures first { ShowsFirst A.Activity.kind (meaning_of P.Policy.meaning moves.now.regime) (grants_of moves.now.regime) A.Activity.BACKWARDS (member from) (member to) steps.new result }
     ensures ticks { ticks.new ≡ replicate (length ticks.old) 0 }
 {
-    if steps.len() < usize::from(moves.contexts()) {
+    if is_short(A::PHASES as u16, moves.contexts(), ticks, places, steps) {
         let _cleared = Cleared::over(ticks);
         return Err(Refusal::ShortMemory);
     }

@@ -1,8 +1,9 @@
-use Rattle.std.proofs.Common.{◌≡◌, None, Some, Ok, rules, sym, subst}
+use Rattle.std.proofs.Common.{◌≡◌, None, Some, Ok, rules, refl, sym, subst}
 use Rattle.access.specs.Contexts.{member}
 use Rattle.moves.specs.Regimes.{grants_of}
 use Rattle.activities.specs.Found.{Leads, Shortest}
 use Rattle.seek.specs.Plan.{among}
+use Rattle.seek.proofs.Memory.{fitting}
 use Rattle.seek.proofs.Sought.{told, none_sought, shortest_sought}
 use Rattle.seek.proofs.measure.measure.Goals as goal
 
@@ -12,7 +13,7 @@ returns-in_default-clause-answer g c =
     let gs = grants_of c.args.moves.now.regime in
     let is : c.search.result ≡ Ok None = search rules in
     let answer = told c.between-chart.result c.between-chart.ensures.moves c.between-chart.ensures.from c.between-chart.ensures.to c.search.new.places None is c.search.ensures.answer in (
-      record { ticks_fit = answer.0.ticks; places_fit = answer.0.places },
+      fitting _ _ _ _ _ refl answer.0,
       none_sought m gs (g.met.P.Policy.sound c.args.moves.now.regime.policy.now) g.met.A.Activity.lawful (member c.args.from) (member c.args.to) answer.1,
     )
 
@@ -22,7 +23,7 @@ returns-clause-answer g c =
     let gs = grants_of c.args.moves.now.regime in
     let is : c.search.result ≡ Ok (Some c.in-Some.last) = search rules in
     let answer = told c.between-chart.result c.between-chart.ensures.moves c.between-chart.ensures.from c.between-chart.ensures.to c.search.new.places (Some c.in-Some.last) is c.search.ensures.answer in (
-      record { ticks_fit = answer.0.ticks; places_fit = answer.0.places },
+      fitting _ _ _ _ _ refl answer.0,
       subst (Shortest m gs (Leads g.A.Activity.activities (among m.contexts (member c.args.from)) (member c.args.to))) (sym c.from.ensures)
           (shortest_sought m gs (g.met.P.Policy.sound c.args.moves.now.regime.policy.now) g.met.A.Activity.lawful (member c.args.from) (member c.args.to) c.search.new.places c.in-Some.last answer.1),
     )

@@ -1,10 +1,12 @@
-use Rattle.std.proofs.Common.{◌≡◌, ℕ, ◌≤◌, length, None, Some, Ok, rules, sym, refl, subst, arith}
+use Rattle.std.proofs.Common.{◌≡◌, ℕ, ◌≤◌, false, length, None, Some, Ok, rules, sym, refl, subst, arith}
 use Rattle.access.specs.Contexts.{member}
 use Rattle.search.specs.Queue.{at}
 use Rattle.moves.specs.Regimes.{meaning_of, grants_of}
 use Rattle.activities.specs.Traced.{Traced}
 use Rattle.activities.specs.Found.{Leads, Searched}
 use Rattle.seek.specs.Plan.{among, line}
+use Rattle.seek.specs.Sought.{short}
+use Rattle.seek.proofs.Memory.{steps_fit}
 use Rattle.seek.proofs.Charted.{few_edges}
 use Rattle.seek.proofs.Sought.{told, none_sought, found_sought}
 use Rattle.seek.specs.Settled.{Settled}
@@ -17,7 +19,7 @@ returns-in_default-clause-answer g c =
     let gs = grants_of c.args.moves.now.regime in
     let is : c.search.result ≡ Ok None = search rules in
     let answer = told c.between-chart.result c.between-chart.ensures.moves c.between-chart.ensures.from c.between-chart.ensures.to c.search.new.places None is c.search.ensures.answer in (
-      record { ticks_fit = answer.0.ticks; places_fit = answer.0.places; steps_fit = omega (arith, c.if-steps-from.false, c.contexts.ensures, c.from.ensures) },
+      search rules,
       (none_sought m gs (g.met.P.Policy.sound c.args.moves.now.regime.policy.now) g.met.A.Activity.lawful (member c.args.from) (member c.args.to) answer.1, refl),
     )
 
@@ -27,7 +29,9 @@ write-requires g c =
     let gs = grants_of c.args.moves.now.regime in
     let is : c.search.result ≡ Ok (Some c.in-Some.last) = search rules in
     let answer = told c.between-chart.result c.between-chart.ensures.moves c.between-chart.ensures.from c.between-chart.ensures.to c.search.new.places (Some c.in-Some.last) is c.search.ensures.answer in
-    omega (arith, few_edges g.A.Activity.kind m gs (member c.args.from) (member c.args.to) (g.met.P.Policy.sound c.args.moves.now.regime.policy.now) c.search.new.places c.in-Some.last answer.1, c.if-steps-from.false, c.contexts.ensures, c.from.ensures)
+    let enough : short g.A.Activity.kind.phases m.contexts (length c.args.ticks.now) (length c.args.places.now) (length c.args.steps.now) ≡ false = search rules in
+    let room : m.contexts ≤ length c.args.steps.now = steps_fit _ m.contexts _ _ _ enough in
+    omega (arith, few_edges g.A.Activity.kind m gs (member c.args.from) (member c.args.to) (g.met.P.Policy.sound c.args.moves.now.regime.policy.now) c.search.new.places c.in-Some.last answer.1, room)
 
 pub returns-clause-answer : goal.returns-clause-answer
 returns-clause-answer g c =
@@ -37,10 +41,11 @@ returns-clause-answer g c =
     let last = c.in-Some.last in
     let is : c.search.result ≡ Ok (Some c.in-Some.last) = search rules in
     let answer = told c.between-chart.result c.between-chart.ensures.moves c.between-chart.ensures.from c.between-chart.ensures.to ps (Some last) is c.search.ensures.answer in
-    let room : m.contexts ≤ length c.args.steps.now = omega (arith, c.if-steps-from.false, c.contexts.ensures, c.from.ensures) in
+    let enough : short g.A.Activity.kind.phases m.contexts (length c.args.ticks.now) (length c.args.places.now) (length c.args.steps.now) ≡ false = search rules in
+    let room = steps_fit _ m.contexts _ _ _ enough in
     let shown = subst (λ v. Traced g.A.Activity.kind (meaning_of g.P.Policy.meaning v.regime) (grants_of v.regime) g.A.Activity.BACKWARDS (line ps last) (at ps last).depth c.write.new.steps) c.between-chart.ensures.moves c.write.ensures.shown in
     let sought = found_sought m gs (g.met.P.Policy.sound c.args.moves.now.regime.policy.now) g.met.A.Activity.lawful (member c.args.from) (member c.args.to) ps last answer.1 c.args.steps.now c.write.new.steps room c.write.auto.steps shown c.write.ensures.rest in (
-      record { ticks_fit = answer.0.ticks; places_fit = answer.0.places; steps_fit = room },
+      enough,
       subst (λ (k : ℕ). Searched m gs (Leads g.A.Activity.activities (among m.contexts (member c.args.from)) (member c.args.to)) c.args.steps.now c.write.new.steps (Some k)) (sym c.write.ensures.all) sought,
     )
 
@@ -52,7 +57,8 @@ returns-clause-first g c =
     let last = c.in-Some.last in
     let is : c.search.result ≡ Ok (Some c.in-Some.last) = search rules in
     let answer = told c.between-chart.result c.between-chart.ensures.moves c.between-chart.ensures.from c.between-chart.ensures.to ps (Some last) is c.search.ensures.answer in
-    let room : m.contexts ≤ length c.args.steps.now = omega (arith, c.if-steps-from.false, c.contexts.ensures, c.from.ensures) in
+    let enough : short g.A.Activity.kind.phases m.contexts (length c.args.ticks.now) (length c.args.places.now) (length c.args.steps.now) ≡ false = search rules in
+    let room = steps_fit _ m.contexts _ _ _ enough in
     let few = few_edges g.A.Activity.kind m gs (member c.args.from) (member c.args.to) (g.met.P.Policy.sound c.args.moves.now.regime.policy.now) ps last answer.1 in
     let shown = subst (λ v. Traced g.A.Activity.kind (meaning_of g.P.Policy.meaning v.regime) (grants_of v.regime) g.A.Activity.BACKWARDS (line ps last) (at ps last).depth c.write.new.steps) c.between-chart.ensures.moves c.write.ensures.shown in
     let first = settled g.A.Activity.kind m gs g.A.Activity.BACKWARDS (member c.args.from) (member c.args.to) ps last answer.1 c.write.new.steps (omega (arith, c.write.auto.steps, few, room)) shown in
