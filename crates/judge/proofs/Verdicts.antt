@@ -1,5 +1,6 @@
 -- From what was sought to the verdict on a property.
 use Rattle.std.proofs.Common.{◌≡◌, ℕ, ◌*◌, ◌≤◌, Bool, true, false, ◌↔◌, List, sym, refl, subst, mul-le-mul_right, arith}
+use Rattle.std.proofs.lemmas.Bool.Decides.{nat_tests}
 use Rattle.access.specs.Contexts.{inside}
 use Rattle.access.specs.Policy.{Meaning}
 use Rattle.access.proofs.Tests.{both, both_parts}
@@ -27,7 +28,7 @@ use Rattle.judge.specs.declared.verdict.Verdict.TheVariants.{Guaranteed, Broken}
 pub fewer : (phases n : ℕ) (ts : List ℕ) (ps : List Place) (ss : List Step) → phases ≤ 2 → Suffices 2 n ts ps ss → Suffices phases n ts ps ss
 fewer phases n ts ps ss few h =
     let q : phases * n ≤ 2 * n = mul-le-mul_right n few in
-    record { ticks_fit = omega (arith, h.ticks_fit); places_fit = omega (arith, h.places_fit); steps_fit = h.steps_fit }
+    grind (arith, nat_tests)
 
 -- two functions of a set lead on from its contexts alike
 module _ (activities : ℕ → ℕ → List Move → Type 0) (n : ℕ) (A B : ℕ → Bool) where

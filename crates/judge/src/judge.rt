@@ -19,6 +19,7 @@ use moves::moves::Moves;
 use moves::step::Step;
 use properties::property::{Property, Template};
 use search::Place;
+use seek::seek::is_short;
 
 /// The verdict on a property, by its template.
 fn decide<'a, P: Policy>(
@@ -60,8 +61,7 @@ pub fn judge<'a, P: Policy>(
     ensures answer { Answered (meaning_of P.Policy.meaning moves.now.regime) (grants_of moves.now.regime) (property_of property) ticks.old places.old places.new steps.old steps.new result }
     ensures ticks { ticks.new ≡ replicate (length ticks.old) 0 }
 {
-    let n = usize::from(moves.contexts());
-    if ticks.len() < 2 * n || places.len() < 2 * n || steps.len() < n {
+    if is_short(2, moves.contexts(), ticks, places, steps) {
         let _cleared = Cleared::over(ticks);
         return Err(Refusal::ShortMemory);
     }

@@ -1,4 +1,4 @@
-use Rattle.std.proofs.Common.{arith}
+use Rattle.std.proofs.Common.{rules}
 use Rattle.moves.specs.Regimes.{meaning_of, grants_of}
 use Rattle.judge.specs.Judged.{property_of}
 use Rattle.judge.proofs.Verdicts.{sure}
@@ -8,7 +8,7 @@ pub returns : goal.returns
 returns g c =
     record {
       answer = (
-        record { ticks_fit = omega (arith, c.if-ticks-n.false, c.contexts.ensures, c.from-n.ensures); places_fit = omega (arith, c.if-places-n.false, c.contexts.ensures, c.from-n.ensures); steps_fit = omega (arith, c.if-steps-n.false, c.contexts.ensures, c.from-n.ensures) },
+        search rules,
         λ o. let j = c.decide.ensures.judged o in (j, sure (meaning_of g.P.Policy.meaning c.args.moves.now.regime) (grants_of c.args.moves.now.regime) c.args.steps.now c.decide.new.steps (property_of c.args.property) c.decide.result j),
       );
       ticks = c.decide.ensures.ticks;
