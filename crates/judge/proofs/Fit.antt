@@ -1,17 +1,20 @@
 -- The sets of a property that is fit are of contexts.
-use Rattle.std.proofs.Common.{◌≡◌, ℕ, Bool, true, false, [], ◌∷◌, None, refl, arith}
+use Rattle.std.proofs.Common.{◌≡◌, ℕ, Bool, true, false, [], ◌∷◌, Some, None, Option, refl, arith}
+use Rattle.std.specs.Option.{option_or}
 use Rattle.std.proofs.lemmas.Bool.{or_parts}
 use Rattle.access.specs.Contexts.{member, has_above, empty, meet}
 use Rattle.access.specs.Refusals.{first_of}
 use Rattle.access.specs.declared.context_set.ContextSet.{ContextSet}
-use Rattle.access.specs.declared.refusal.Refusal.TheVariants.{UnfitSet, SharedContext}
+use Rattle.access.specs.declared.refusal.Refusal.{Refusal}
+use Rattle.access.specs.declared.refusal.Refusal.TheVariants.{UnfitSet, SharedContext, ShortMemory}
 use Rattle.access.proofs.ContextLaws.{none_above}
 use Rattle.verdicts.specs.Laws.{AllInside, OfContexts}
+use Rattle.seek.specs.Sought.{short}
 use Rattle.properties.specs.Fitness.{unfit, unfit_second, property_refusal}
 use Rattle.properties.specs.declared.property.Property.{Property}
 use Rattle.properties.specs.declared.property.Template.{Template}
 use Rattle.properties.specs.declared.property.Template.TheVariants.{Integrity, Confidentiality, Domain, Consistency}
-use Rattle.judge.specs.Judged.{forbidding, property_of}
+use Rattle.judge.specs.Judged.{forbidding, property_of, judging_refusal}
 
 -- the first of two refusals does not apply
 first_not : (u s : Bool) → first_of ((u, UnfitSet) ∷ (s, SharedContext) ∷ []) ≡ None → u ≡ false
@@ -31,3 +34,11 @@ of_contexts n p e =
     go Confidentiality a b f g = (fit_set a f, fit_set b g)
     go Domain a b f g = tt
     go Consistency a b f g = (fit_set a f, fit_set b g)
+
+-- a property that is judged is fit
+pub fit_judged : (n : ℕ) (p : Property) (ticks places steps : ℕ) → judging_refusal n p ticks places steps ≡ None → property_refusal n p ≡ None
+fit_judged n p ticks places steps e = go (property_refusal n p) e
+  where
+    go : (o : Option Refusal) → option_or o (first_of ((short 2 n ticks places steps, ShortMemory) ∷ [])) ≡ None → o ≡ None
+    go None e = refl
+    go (Some why) e = e

@@ -1,5 +1,5 @@
 -- The book: what stands on a sheet, told from the calls alone.
-use Rattle.std.specs.Prelude.{ℕ, ◌+◌, ◌*◌, min, Bool, false, not, ◌||◌, List, [], ◌∷◌, is_some, Some, None, Option, ◌==◌, nat_le, nat_lt}
+use Rattle.std.specs.Prelude.{ℕ, ◌+◌, min, Bool, false, not, ◌||◌, List, [], ◌∷◌, is_some, Some, None, Option, ◌==◌, nat_le}
 use Rattle.std.specs.Option.{option_or}
 use Rattle.access.specs.Operations.{unknown}
 use Rattle.access.specs.Contexts.{inside, both_inside}
@@ -11,6 +11,7 @@ use Rattle.access.specs.declared.refusal.Refusal.TheVariants.{NumberOutside, Sta
 use Rattle.entries.specs.Entries.{Entries, put}
 use Rattle.entries.specs.Standing.{entering_refusal, striking_refusal}
 use Rattle.moves.specs.declared.grant.Grant.{Grant}
+use Rattle.seek.specs.Sought.{short}
 use Rattle.properties.specs.Fitness.{unfit, property_refusal}
 use Rattle.properties.specs.declared.property.Property.{Property}
 use Rattle.sheet.specs.declared.request.Request.{Request}
@@ -38,10 +39,6 @@ abbrev pub notes_full : Option Opened → Bool
 notes_full None = false
 notes_full (Some o) = nat_le 128 o.notes
 
--- the memory that is lent for judging n contexts is too short: ticks and places of 2n, steps of n
-abbrev pub short : ℕ → ℕ → ℕ → ℕ → Bool
-short n ticks places steps = nat_lt ticks (2 * n) || nat_lt places (2 * n) || nat_lt steps n
-
 -- the refusal of a call: the first of its list that applies
 abbrev pub refusal : Book → Request → Option Refusal
 refusal b (Set s t ops) =
@@ -68,7 +65,7 @@ refusal b (Judge k ticks places steps) =
     first_of (
     (not (inside 64 k), NumberOutside)
     ∷ (not (is_some (b.properties k)), StandsNot)
-    ∷ (short b.policy.contexts ticks places steps, ShortMemory)
+    ∷ (short 2 b.policy.contexts ticks places steps, ShortMemory)
     ∷ [])
 refusal b AskSettings = None
 refusal b AskContexts = None
