@@ -1,5 +1,5 @@
 //! Grants and properties are entered and struck.
-ghost use Rattle.std.specs.Prelude.{◌≡◌};
+ghost use Rattle.std.specs.Prelude.{◌≡◌, OnErr};
 ghost use Rattle.access.specs.Refusals.{answer};
 ghost use Rattle.sheet.specs.Book.{refusal, fed};
 ghost use Rattle.sheet.specs.Shown.{shown};
@@ -31,6 +31,7 @@ impl<P: Policy> Sheet<P> {
     pub fn enter_grant(&mut self, number: u16, grant: Grant) -> Result<(), Refusal>
         ensures told { result ≡ answer (refusal (shown self.old) (EnterGrant number grant)) }
         ensures done { shown self.new ≡ fed (shown self.old) (EnterGrant number grant) }
+        ensures kept { OnErr result (self.new ≡ self.old) }
     {
         self.check_grant(number, grant)?;
         self.grants.put(number, Some(grant));
@@ -40,6 +41,7 @@ impl<P: Policy> Sheet<P> {
     pub fn strike_grant(&mut self, number: u16) -> Result<(), Refusal>
         ensures told { result ≡ answer (refusal (shown self.old) (StrikeGrant number)) }
         ensures done { shown self.new ≡ fed (shown self.old) (StrikeGrant number) }
+        ensures kept { OnErr result (self.new ≡ self.old) }
     {
         self.grants.strike(number)
     }
@@ -56,6 +58,7 @@ impl<P: Policy> Sheet<P> {
     pub fn enter_property(&mut self, number: u16, property: Property) -> Result<(), Refusal>
         ensures told { result ≡ answer (refusal (shown self.old) (EnterProperty number property)) }
         ensures done { shown self.new ≡ fed (shown self.old) (EnterProperty number property) }
+        ensures kept { OnErr result (self.new ≡ self.old) }
     {
         self.check_property(number, property)?;
         self.properties.put(number, Some(property));
@@ -65,6 +68,7 @@ impl<P: Policy> Sheet<P> {
     pub fn strike_property(&mut self, number: u16) -> Result<(), Refusal>
         ensures told { result ≡ answer (refusal (shown self.old) (StrikeProperty number)) }
         ensures done { shown self.new ≡ fed (shown self.old) (StrikeProperty number) }
+        ensures kept { OnErr result (self.new ≡ self.old) }
     {
         self.properties.strike(number)
     }
