@@ -1,5 +1,5 @@
 //! A table with a place for one entry under each number from 1 to N.
-ghost use Rattle.std.specs.Prelude.{◌≡◌, length, is_some, None};
+ghost use Rattle.std.specs.Prelude.{◌≡◌, length, is_some, None, OnErr};
 ghost use Rattle.access.specs.Refusals.{answer, when_accepted};
 ghost use Rattle.entries.specs.Entries.{put, put_within, listed, in_order};
 ghost use Rattle.entries.specs.Standing.{entry_at, entering_refusal, striking_refusal};
@@ -77,6 +77,7 @@ impl<E: Copy, const N: usize> Table<E, N> {
     pub fn strike(&mut self, number: u16) -> Result<(), Refusal>
         ensures told { result ≡ answer (striking_refusal N (held self.old) number) }
         ensures done { held self.new ≡ when_accepted (striking_refusal N (held self.old) number) (put (held self.old) number None) (held self.old) }
+        ensures kept { OnErr result (self.new ≡ self.old) }
     {
         self.standing(number)?;
         self.put(number, None);

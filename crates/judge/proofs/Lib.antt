@@ -1,3 +1,4 @@
+pub mod Fit
 mod Verdicts
 mod Crosses
 mod Sets

@@ -68,8 +68,8 @@ module _ (m : Meaning) (gs : Grants) (ss ss' : List Step) where
     pub by_pull : t ≡ Confidentiality → Tells m gs (Leads Pull (among m.contexts A) B) ss ss' v → WithSteps (Settled pulling m gs true A B ss') v → OfContexts m.contexts (forbidding t A B) → Judged m gs (forbidding t A B) ss ss' v
     by_pull e h f = subst VerdictOn (sym e) (λ o. judged_by (confidentiality A B) (Leads Pull (among m.contexts A) B) (among_from Pull m.contexts A B o.0) (among_to Pull m.contexts A B) v h f)
 
-    pub by_flow : t ≡ Consistency → (AllInside m.contexts A → AllInside m.contexts B → Tells m gs (Forbids m (consistency A B)) ss ss' v) → WithSteps (FirstFlow m gs A B ss') v → OfContexts m.contexts (forbidding t A B) → Judged m gs (forbidding t A B) ss ss' v
-    by_flow e h f = subst VerdictOn (sym e) (λ o. judged_by (consistency A B) (Forbids m (consistency A B)) (λ ms g. g) (λ ms g. g) v (h o.0 o.1) f)
+    pub by_flow : t ≡ Consistency → Tells m gs (Forbids m (consistency A B)) ss ss' v → WithSteps (FirstFlow m gs A B ss') v → OfContexts m.contexts (forbidding t A B) → Judged m gs (forbidding t A B) ss ss' v
+    by_flow e h f = subst VerdictOn (sym e) (λ o. judged_by (consistency A B) (Forbids m (consistency A B)) (λ ms g. g) (λ ms g. g) v h f)
 
     pub by_domain : t ≡ Domain → Tells m gs (Forbids m (domain A)) ss ss' v → WithSteps (FirstContact m gs A ss') v → OfContexts m.contexts (forbidding t A B) → Judged m gs (forbidding t A B) ss ss' v
     by_domain e h f = subst VerdictOn (sym e) (λ o. judged_by (domain A) (Forbids m (domain A)) (λ ms g. g) (λ ms g. g) v h f)

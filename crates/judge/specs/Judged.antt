@@ -1,17 +1,19 @@
 -- What the code's properties mean, and what its verdicts say.
-use Rattle.std.specs.Prelude.{◌≡◌, ℕ, ◌≤◌, Bool, ◌↔◌, List, drop, Ok, Err, Result}
+use Rattle.std.specs.Prelude.{◌≡◌, ℕ, ◌≤◌, Bool, ◌↔◌, List, [], ◌∷◌, length, drop, Some, None, Ok, Err, Option, Result}
+use Rattle.std.specs.Option.{option_or}
 use Rattle.access.specs.Contexts.{member}
 use Rattle.access.specs.Policy.{Meaning}
-use Rattle.access.specs.Refusals.{refusal_number}
+use Rattle.access.specs.Refusals.{first_of}
 use Rattle.access.specs.declared.refusal.Refusal.{Refusal}
+use Rattle.access.specs.declared.refusal.Refusal.TheVariants.{ShortMemory}
 use Rattle.verdicts.specs.Runs.{Grants}
 use Rattle.verdicts.specs.Activities.{Move, Property as Forbidding, integrity, confidentiality, domain, consistency}
-use Rattle.verdicts.specs.Laws.{OfContexts}
 use Rattle.verdicts.specs.Verdicts.{Guaranteed as Holds, Broken as Breaks}
 use Rattle.search.specs.declared.Place.{Place}
 use Rattle.moves.specs.declared.step.Step.{Step}
 use Rattle.activities.specs.Found.{NoneRealised, first_steps, Found}
-use Rattle.seek.specs.Sought.{Suffices}
+use Rattle.seek.specs.Sought.{short}
+use Rattle.properties.specs.Fitness.{property_refusal}
 use Rattle.properties.specs.declared.property.Property.{Property}
 use Rattle.properties.specs.declared.property.Template.{Template}
 use Rattle.properties.specs.declared.property.Template.TheVariants.{Integrity, Confidentiality, Domain, Consistency}
@@ -35,11 +37,17 @@ abbrev pub Judged : Meaning → Grants → Forbidding → List Step → List Ste
 Judged m gs p ss ss' Guaranteed = Holds m gs p × (ss' ≡ ss)
 Judged m gs p ss ss' (Broken k) = Breaks m gs p (first_steps k ss') × (drop k ss' ≡ drop k ss) × (k ≤ m.contexts) × Chosen m gs p ss' k
 
--- refused with 12 exactly where the memory does not suffice, the places and the steps as before; else, where the sets of the
--- property are of contexts, the verdict, which is `Guaranteed` exactly where the property is
-abbrev pub Answered : Meaning → Grants → Forbidding → List ℕ → List Place → List Place → List Step → List Step → Result Verdict Refusal → Type 0
-Answered m gs p ts ps ps' ss ss' (Ok v) = Suffices 2 m.contexts ts ps ss × (OfContexts m.contexts p → Judged m gs p ss ss' v × ((v ≡ Guaranteed) ↔ Holds m gs p))
-Answered m gs p ts ps ps' ss ss' (Err why) = (refusal_number why ≡ 12) × (Suffices 2 m.contexts ts ps ss → ⊥) × (ps' ≡ ps) × (ss' ≡ ss)
+-- why a property is not judged under n contexts with memory of these lengths: it is not fit, or else the memory is too short
+abbrev pub judging_refusal : ℕ → Property → ℕ → ℕ → ℕ → Option Refusal
+judging_refusal n q ticks places steps = option_or (property_refusal n q) (first_of ((short 2 n ticks places steps, ShortMemory) ∷ []))
+
+-- a verdict, which is `Guaranteed` exactly where the property is; or refused, the places and the steps as before
+abbrev pub Answered : Meaning → Grants → Property → List ℕ → List Place → List Place → List Step → List Step → Result Verdict Refusal → Type 0
+Answered m gs q ts ps ps' ss ss' (Ok v) =
+    (judging_refusal m.contexts q (length ts) (length ps) (length ss) ≡ None)
+    × Judged m gs (property_of q) ss ss' v
+    × ((v ≡ Guaranteed) ↔ Holds m gs (property_of q))
+Answered m gs q ts ps ps' ss ss' (Err why) = (judging_refusal m.contexts q (length ts) (length ps) (length ss) ≡ Some why) × (ps' ≡ ps) × (ss' ≡ ss)
 
 -- what a verdict tells of the activities that were sought
 abbrev pub Tells : Meaning → Grants → (List Move → Type 0) → List Step → List Step → Verdict → Type 0

@@ -132,8 +132,10 @@ impl<P: Policy> Flows<'_, P> {
         places: &mut [Place],
         steps: &mut [Step],
     ) -> Verdict
-        requires { Suffices 2 (meaning_of P.Policy.meaning self.now.moves.now.regime).contexts ticks.old places.old steps.old }
-        ensures told { AllInside (meaning_of P.Policy.meaning self.now.moves.now.regime).contexts (member self.now.from) → AllInside (meaning_of P.Policy.meaning self.now.moves.now.regime).contexts (member self.now.to) → Tells (meaning_of P.Policy.meaning self.now.moves.now.regime) (grants_of self.now.moves.now.regime) (Forbids (meaning_of P.Policy.meaning self.now.moves.now.regime) (consistency (member self.now.from) (member self.now.to))) steps.old steps.new result }
+        requires fits { Suffices 2 (meaning_of P.Policy.meaning self.now.moves.now.regime).contexts ticks.old places.old steps.old }
+        requires from { AllInside (meaning_of P.Policy.meaning self.now.moves.now.regime).contexts (member self.now.from) }
+        requires to { AllInside (meaning_of P.Policy.meaning self.now.moves.now.regime).contexts (member self.now.to) }
+        ensures told { Tells (meaning_of P.Policy.meaning self.now.moves.now.regime) (grants_of self.now.moves.now.regime) (Forbids (meaning_of P.Policy.meaning self.now.moves.now.regime) (consistency (member self.now.from) (member self.now.to))) steps.old steps.new result }
         ensures first { WithSteps (FirstFlow (meaning_of P.Policy.meaning self.now.moves.now.regime) (grants_of self.now.moves.now.regime) (member self.now.from) (member self.now.to) steps.new) result }
         ensures ticks { ticks.new ≡ replicate (length ticks.old) 0 }
     {

@@ -1,10 +1,11 @@
 //! Judging: the one call.
 ghost use Rattle.std.specs.Prelude.{◌≡◌, length, replicate};
+ghost use Rattle.access.specs.Refusals.{answer};
 ghost use Rattle.verdicts.specs.Laws.{OfContexts};
 ghost use Rattle.moves.specs.Regimes.{meaning_of, grants_of};
 ghost use Rattle.seek.specs.Sought.{Suffices};
 ghost use Rattle.judge.specs.Chosen.{OneShowing};
-ghost use Rattle.judge.specs.Judged.{property_of, Judged, Answered};
+ghost use Rattle.judge.specs.Judged.{property_of, Judged, judging_refusal, Answered};
 
 use crate::contact::Domain;
 use crate::flow::Flows;
@@ -29,8 +30,9 @@ fn decide<'a, P: Policy>(
     places: &mut [Place],
     steps: &mut [Step],
 ) -> Verdict
-    requires { Suffices 2 (meaning_of P.Policy.meaning moves.now.regime).contexts ticks.old places.old steps.old }
-    ensures judged { OfContexts (meaning_of P.Policy.meaning moves.now.regime).contexts (property_of property) → Judged (meaning_of P.Policy.meaning moves.now.regime) (grants_of moves.now.regime) (property_of property) steps.old steps.new result }
+    requires fits { Suffices 2 (meaning_of P.Policy.meaning moves.now.regime).contexts ticks.old places.old steps.old }
+    requires inside { OfContexts (meaning_of P.Policy.meaning moves.now.regime).contexts (property_of property) }
+    ensures judged { Judged (meaning_of P.Policy.meaning moves.now.regime) (grants_of moves.now.regime) (property_of property) steps.old steps.new result }
     ensures ticks { ticks.new ≡ replicate (length ticks.old) 0 }
 {
     let from = property.first;
@@ -47,8 +49,26 @@ fn decide<'a, P: Policy>(
     }
 }
 
+/// Checks that a property is fit for so many contexts, and then that the lent memory is long enough to judge it.
+fn check(
+    contexts: u16,
+    property: Property,
+    ticks: &[u8],
+    places: &[Place],
+    steps: &[Step],
+) -> Result<(), Refusal>
+    ensures { result ≡ answer (judging_refusal contexts property (length ticks.now) (length places.now) (length steps.now)) }
+{
+    property.check(contexts)?;
+    if is_short(2, contexts, ticks, places, steps) {
+        return Err(Refusal::ShortMemory);
+    }
+    Ok(())
+}
+
 /// Judges a property under a policy with standing grants: guaranteed, or broken in so many steps, which then stand in front
-/// of `steps` in working order. Refused where a lent slice is too short; the ticks are handed back all zero in any case.
+/// of `steps` in working order. Refused where the property is not fit, or else where a lent slice is too short; the ticks are
+/// handed back all zero in any case.
 // Lent memory as three slices (two where no steps are written), and so in `seek`, `measure`, `decide`, `by_search` and `Flows`, with
 // what each asks or promises of them: of a struct of them each contract would owe that it still lends the same three.
 pub fn judge<'a, P: Policy>(
@@ -58,12 +78,12 @@ pub fn judge<'a, P: Policy>(
     places: &mut [Place],
     steps: &mut [Step],
 ) -> Result<Verdict, Refusal>
-    ensures answer { Answered (meaning_of P.Policy.meaning moves.now.regime) (grants_of moves.now.regime) (property_of property) ticks.old places.old places.new steps.old steps.new result }
+    ensures answer { Answered (meaning_of P.Policy.meaning moves.now.regime) (grants_of moves.now.regime) property ticks.old places.old places.new steps.old steps.new result }
     ensures ticks { ticks.new ≡ replicate (length ticks.old) 0 }
 {
-    if is_short(2, moves.contexts(), ticks, places, steps) {
+    if let Err(why) = check(moves.contexts(), property, ticks, places, steps) {
         let _cleared = Cleared::over(ticks);
-        return Err(Refusal::ShortMemory);
+        return Err(why);
     }
     Ok(decide(moves, property, ticks, places, steps))
 }

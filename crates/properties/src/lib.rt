@@ -1,5 +1,6 @@
-//! The properties that a policy is judged by.
+//! The properties that a policy is judged by, and which of them are fit.
 
 #![tactic(auto)]
 
+pub mod fitness;
 pub mod property;

@@ -13,7 +13,8 @@ use Rattle.properties.specs.declared.property.Property.{Property}
 use Rattle.judge.specs.Judged.{property_of}
 use Rattle.judge.specs.declared.verdict.Verdict.{Verdict}
 use Rattle.judge.specs.declared.verdict.Verdict.TheVariants.{Guaranteed, Broken}
-use Rattle.sheet.specs.Book.{Book, short, refusal}
+use Rattle.seek.specs.Sought.{short}
+use Rattle.sheet.specs.Book.{Book, refusal}
 use Rattle.sheet.specs.Judging.{standing_grants, VerdictOn, VerdictOnEntry, Judges}
 use Rattle.sheet.specs.declared.request.Request.TheVariants.{Judge}
 use Rattle.replay.specs.Calls.{judgingly}
@@ -24,11 +25,11 @@ abbrev pub reply_to : List Step → Result Verdict Refusal → Reply
 reply_to steps r = reply_of (judgingly r steps)
 
 -- memory beyond what 256 contexts take makes no difference
-cut : (n ticks places steps : ℕ) → n ≤ 256 → short n (min ticks 512) (min places 512) (min steps 256) ≡ short n ticks places steps
+cut : (n ticks places steps : ℕ) → n ≤ 256 → short 2 n (min ticks 512) (min places 512) (min steps 256) ≡ short 2 n ticks places steps
 cut n ticks places steps few = grind (arith, nat_tests)
 
 -- a judging that is accepted has steps for all contexts
-enough : (n ticks places steps : ℕ) → short n ticks places steps ≡ false → n ≤ steps
+enough : (n ticks places steps : ℕ) → short 2 n ticks places steps ≡ false → n ≤ steps
 enough n ticks places steps e = grind (arith, nat_tests)
 
 not_short : (r s m : Bool) → first_of ((not r, NumberOutside) ∷ (not s, StandsNot) ∷ (m, ShortMemory) ∷ []) ≡ None → m ≡ false
@@ -58,7 +59,7 @@ module _ (b : Book) (k ticks places steps : ℕ) (ts : List ℕ) (ps ps' : List 
       n : ℕ
       n = b.policy.contexts
 
-      same : short n (length ts) (length ps) (length ss) ≡ short n ticks places steps
+      same : short 2 n (length ts) (length ps) (length ss) ≡ short 2 n ticks places steps
       same = rw (t, p, s) (cut n ticks places steps few)
 
       alike : refusal b (Judge k (length ts) (length ps) (length ss)) ≡ refusal b (Judge k ticks places steps)
@@ -66,6 +67,6 @@ module _ (b : Book) (k ticks places steps : ℕ) (ts : List ℕ) (ps ps' : List 
 
       go : (r : Result Verdict Refusal) → Judges b k ts ps ps' ss ss' r → Right b (Judge k ticks places steps) (reply_to (ss' ++ rest) r)
       go (Ok v) (e, told) =
-          let fit = enough n (length ts) (length ps) (length ss) (not_short (inside 64 k) (is_some (b.properties k)) (short n (length ts) (length ps) (length ss)) e) in
+          let fit = enough n (length ts) (length ps) (length ss) (not_short (inside 64 k) (is_some (b.properties k)) (short 2 n (length ts) (length ps) (length ss)) e) in
           subst (λ (o : Option Refusal). RightWhere o b (Judge k ticks places steps) (reply_to (ss' ++ rest) (Ok v))) (sym e ∙ alike) (on_entry b ss ss' rest (omega arith) (b.properties k) v told)
       go (Err why) (e, _, _) = subst (λ (o : Option Refusal). RightWhere o b (Judge k ticks places steps) (refused (refusal_number why))) (sym e ∙ alike) refl

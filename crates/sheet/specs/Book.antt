@@ -1,19 +1,19 @@
 -- The book: what stands on a sheet, told from the calls alone.
-use Rattle.std.specs.Prelude.{ℕ, ◌+◌, ◌*◌, min, Bool, false, not, ◌||◌, List, [], ◌∷◌, is_some, Some, None, Option, ◌==◌, nat_le, nat_lt}
+use Rattle.std.specs.Prelude.{ℕ, ◌+◌, min, Bool, false, not, ◌||◌, List, [], ◌∷◌, is_some, Some, None, Option, ◌==◌, nat_le}
+use Rattle.std.specs.Option.{option_or}
 use Rattle.access.specs.Operations.{unknown}
-use Rattle.access.specs.Contexts.{inside, both_inside, has_above, empty, meet}
+use Rattle.access.specs.Contexts.{inside, both_inside}
 use Rattle.access.specs.Policy.{Matrix, Meaning, with_written}
 use Rattle.access.specs.Refusals.{first_of, when_accepted}
 use Rattle.access.specs.Setting.{no_room, with_set}
 use Rattle.access.specs.declared.refusal.Refusal.{Refusal}
-use Rattle.access.specs.declared.refusal.Refusal.TheVariants.{NumberOutside, StandsAlready, StandsNot, ContextOutside, UnfitOperations, UnfitSet, SharedContext, OpenAlready, NoneOpen, NotesFull, PolicyFull, ShortMemory}
+use Rattle.access.specs.declared.refusal.Refusal.TheVariants.{NumberOutside, StandsAlready, StandsNot, ContextOutside, UnfitOperations, UnfitSet, OpenAlready, NoneOpen, NotesFull, PolicyFull, ShortMemory}
 use Rattle.entries.specs.Entries.{Entries, put}
-use Rattle.entries.specs.Standing.{striking_refusal}
-use Rattle.access.specs.declared.context_set.ContextSet.{ContextSet}
+use Rattle.entries.specs.Standing.{entering_refusal, striking_refusal}
 use Rattle.moves.specs.declared.grant.Grant.{Grant}
+use Rattle.seek.specs.Sought.{short}
+use Rattle.properties.specs.Fitness.{unfit, property_refusal}
 use Rattle.properties.specs.declared.property.Property.{Property}
-use Rattle.properties.specs.declared.property.Template.{Template}
-use Rattle.properties.specs.declared.property.Template.TheVariants.{Integrity, Confidentiality, Domain, Consistency}
 use Rattle.sheet.specs.declared.request.Request.{Request}
 use Rattle.sheet.specs.declared.request.Request.TheVariants.{Set, EnterGrant, StrikeGrant, EnterProperty, StrikeProperty, Open, Adopt, Withdraw, Judge, AskSettings, AskContexts, AskCapacity, AskWritten, AskPermitted}
 
@@ -39,21 +39,6 @@ abbrev pub notes_full : Option Opened → Bool
 notes_full None = false
 notes_full (Some o) = nat_le 128 o.notes
 
--- a set has a member above n, or is empty
-abbrev pub unfit : ℕ → ContextSet → Bool
-unfit n set = has_above n set || empty set
-
--- the same of the second set of a property; that of a domain is to be empty
-abbrev pub unfit_second : ℕ → Template → ContextSet → Bool
-unfit_second n Integrity set = unfit n set
-unfit_second n Confidentiality set = unfit n set
-unfit_second n Domain set = not (empty set)
-unfit_second n Consistency set = unfit n set
-
--- the memory that is lent for judging n contexts is too short: ticks and places of 2n, steps of n
-abbrev pub short : ℕ → ℕ → ℕ → ℕ → Bool
-short n ticks places steps = nat_lt ticks (2 * n) || nat_lt places (2 * n) || nat_lt steps n
-
 -- the refusal of a call: the first of its list that applies
 abbrev pub refusal : Book → Request → Option Refusal
 refusal b (Set s t ops) =
@@ -71,13 +56,7 @@ refusal b (EnterGrant k g) =
     ∷ (unfit b.policy.contexts g.subjects || unfit b.policy.contexts g.targets, UnfitSet)
     ∷ [])
 refusal b (StrikeGrant k) = striking_refusal 32 b.grants k
-refusal b (EnterProperty k p) =
-    first_of (
-    (not (inside 64 k), NumberOutside)
-    ∷ (is_some (b.properties k), StandsAlready)
-    ∷ (unfit b.policy.contexts p.first || unfit_second b.policy.contexts p.template p.second, UnfitSet)
-    ∷ (meet p.first p.second, SharedContext)
-    ∷ [])
+refusal b (EnterProperty k p) = option_or (entering_refusal 64 b.properties k) (property_refusal b.policy.contexts p)
 refusal b (StrikeProperty k) = striking_refusal 64 b.properties k
 refusal b Open = first_of ((is_some b.change, OpenAlready) ∷ [])
 refusal b Adopt = first_of ((not (is_some b.change), NoneOpen) ∷ [])
@@ -86,7 +65,7 @@ refusal b (Judge k ticks places steps) =
     first_of (
     (not (inside 64 k), NumberOutside)
     ∷ (not (is_some (b.properties k)), StandsNot)
-    ∷ (short b.policy.contexts ticks places steps, ShortMemory)
+    ∷ (short 2 b.policy.contexts ticks places steps, ShortMemory)
     ∷ [])
 refusal b AskSettings = None
 refusal b AskContexts = None

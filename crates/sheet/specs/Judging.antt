@@ -1,27 +1,23 @@
 -- What judging a property that stands on a sheet answers.
-use Rattle.std.specs.Prelude.{◌≡◌, ℕ, Bool, true, not, ◌||◌, ◌↔◌, List, length, Some, None, Ok, Err, Option, Result}
+use Rattle.std.specs.Prelude.{◌≡◌, ℕ, ◌↔◌, List, length, Some, None, Ok, Err, Option, Result}
 use Rattle.access.specs.declared.refusal.Refusal.{Refusal}
 use Rattle.verdicts.specs.Runs.{Grants}
 use Rattle.verdicts.specs.Verdicts.{Guaranteed as Holds}
 use Rattle.search.specs.declared.Place.{Place}
 use Rattle.moves.specs.Grants.{standing}
 use Rattle.moves.specs.declared.step.Step.{Step}
+use Rattle.properties.specs.Fitness.{property_refusal}
 use Rattle.properties.specs.declared.property.Property.{Property}
 use Rattle.judge.specs.Judged.{property_of, Judged}
 use Rattle.judge.specs.declared.verdict.Verdict.{Verdict}
 use Rattle.judge.specs.declared.verdict.Verdict.TheVariants.{Guaranteed}
 use Rattle.entries.specs.Entries.{Entries, in_order}
-use Rattle.sheet.specs.Book.{Book, unfit, unfit_second, refusal}
+use Rattle.sheet.specs.Book.{Book, refusal}
 use Rattle.sheet.specs.declared.request.Request.TheVariants.{Judge}
 
--- nothing, or a property whose sets are fit
-abbrev pub fits : ℕ → Option Property → Bool
-fits n None = true
-fits n (Some p) = not (unfit n p.first || unfit_second n p.template p.second)
-
--- properties that are all fit
+-- each property that stands is fit
 abbrev pub AllFit : ℕ → Entries Property → Type 0
-AllFit n f = (k : ℕ) → fits n (f k) ≡ true
+AllFit n f = (k : ℕ) (p : Property) → f k ≡ Some p → property_refusal n p ≡ None
 
 -- the grants that stand in a book, with their numbers
 abbrev pub standing_grants : Book → Grants

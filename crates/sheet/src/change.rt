@@ -1,5 +1,5 @@
 //! A change is opened, and adopted.
-ghost use Rattle.std.specs.Prelude.{◌≡◌};
+ghost use Rattle.std.specs.Prelude.{◌≡◌, OnErr};
 ghost use Rattle.sheet.specs.Book.{refusal, fed};
 ghost use Rattle.sheet.specs.Shown.{shown, handed, spent};
 ghost use Rattle.sheet.specs.declared.request.Request.TheVariants.{Open, Adopt};
@@ -25,6 +25,7 @@ impl<P: Policy> Sheet<P> {
     pub fn open(&mut self) -> Result<Change, Refusal>
         ensures told { result ≡ handed (refusal (shown self.old) Open) }
         ensures done { shown self.new ≡ fed (shown self.old) Open }
+        ensures kept { OnErr result (self.new ≡ self.old) }
     {
         if self.change.is_some() {
             return Err(Refusal::OpenAlready);
@@ -37,6 +38,7 @@ impl<P: Policy> Sheet<P> {
     pub fn adopt(&mut self, change: Change) -> Result<(), Undecided>
         ensures told { result ≡ spent change (refusal (shown self.old) Adopt) }
         ensures done { shown self.new ≡ fed (shown self.old) Adopt }
+        ensures kept { OnErr result (self.new ≡ self.old) }
     {
         if self.change.take().is_none() {
             return Err(Undecided {

@@ -1,5 +1,5 @@
 //! Pairs are set, and the settings of a change withdrawn.
-ghost use Rattle.std.specs.Prelude.{◌≡◌, true};
+ghost use Rattle.std.specs.Prelude.{◌≡◌, true, OnErr};
 ghost use Rattle.access.specs.Refusals.{answer};
 ghost use Rattle.sheet.specs.Undo.{undo, undoable};
 ghost use Rattle.sheet.specs.Book.{notes_full, refusal, fed};
@@ -79,6 +79,7 @@ impl<P: Policy> Sheet<P> {
     pub fn withdraw(&mut self, change: Change) -> Result<(), Undecided>
         ensures told { result ≡ spent change (refusal (shown self.old) Withdraw) }
         ensures done { shown self.new ≡ fed (shown self.old) Withdraw }
+        ensures kept { OnErr result (self.new ≡ self.old) }
     {
         let Some(notes) = self.change.take() else {
             return Err(Undecided {

@@ -9,7 +9,8 @@ use Rattle.access.specs.Contexts.{inside}
 use Rattle.access.specs.declared.refusal.Refusal.{Refusal}
 use Rattle.search.specs.declared.Place.{Place}
 use Rattle.moves.specs.declared.step.Step.{Step}
-use Rattle.sheet.specs.Book.{Book, short}
+use Rattle.seek.specs.Sought.{short}
+use Rattle.sheet.specs.Book.{Book}
 use Rattle.report.specs.Parts.{part}
 use Rattle.report.specs.Reporting.{reporting_refusal, Reports, NoneAbove, IsNext}
 use Rattle.text_report.specs.Output.{IsPart, ReportAbove, over, next, Written}
@@ -21,7 +22,7 @@ module _ (b : Book) (k : ℕ) (names : List (List ℕ)) (ticks : ℕ) (ps ps' : 
   not_refused : reporting_refusal b k ticks (length ps) (length ss) (length ms) ≡ None
   not_refused =
       let t = lent.ticks_fit in let p = lent.places_fit in let s = lent.steps_fit in let m = lent.bytes_fit in
-      let enough : short b.policy.contexts ticks (length ps) (length ss) ≡ false = grind (arith, nat_tests) in
+      let enough : short 2 b.policy.contexts ticks (length ps) (length ss) ≡ false = grind (arith, nat_tests) in
       rw (ranged, stands, enough) (grind (arith, nat_tests))
 
   pub is_reported : (r : Result ℕ Refusal) → Reports b k names ticks ps ps' ss ss' ms ms' r → IsOk r

@@ -7,12 +7,12 @@ use Rattle.judge.proofs.flow.Flows.judge.Goals as goal
 pub returns-in-None : goal.returns-in-None
 returns-in-None g c =
     record {
-      told = λ a b. flow_none (meaning_of g.P.Policy.meaning c.args.self.now.moves.now.regime) (grants_of c.args.self.now.moves.now.regime) (member c.args.self.now.from) (member c.args.self.now.to) a b c.args.steps.now c.args.steps.now refl c.in-None.ensures;
+      told = flow_none (meaning_of g.P.Policy.meaning c.args.self.now.moves.now.regime) (grants_of c.args.self.now.moves.now.regime) (member c.args.self.now.from) (member c.args.self.now.to) c.requires.from c.requires.to c.args.steps.now c.args.steps.now refl c.in-None.ensures;
       first = tt;
       ticks = search rules;
     }
 
 pub returns-in-Some-clause-told : goal.returns-in-Some-clause-told
-returns-in-Some-clause-told g c a b =
+returns-in-Some-clause-told g c =
     let f = c.args.self.now in
-    flow_some (meaning_of g.P.Policy.meaning f.moves.now.regime) (grants_of f.moves.now.regime) (member f.from) (member f.to) a b c.in-Some.near c.in-Some.ensures c.args.steps.now c.show_from.new.steps c.unwrap-steps.result (rw c.unwrap-steps.ensures at c.show_from.ensures.shown)
+    flow_some (meaning_of g.P.Policy.meaning f.moves.now.regime) (grants_of f.moves.now.regime) (member f.from) (member f.to) c.requires.from c.requires.to c.in-Some.near c.in-Some.ensures c.args.steps.now c.show_from.new.steps c.unwrap-steps.result (rw c.unwrap-steps.ensures at c.show_from.ensures.shown)
