@@ -1,7 +1,8 @@
 -- Domains: a step across the edge, or none.
-use Rattle.std.proofs.Common.{◌≡◌, ℕ, ◌≤◌, Bool, false, ◌&&◌, T, List, [], ◌∷◌, length, set, Some, None, Option, MatchOption, IsSome, sym, refl, ◌∙◌, subst, subst₂, ⊎_elim, arith}
+use Rattle.std.proofs.Common.{◌≡◌, ℕ, ◌<◌, ◌≤◌, Bool, false, ◌&&◌, T, ◌⊎◌, List, [], ◌∷◌, length, set, Some, None, Option, MatchOption, IsSome, sym, refl, ap₂, ◌∙◌, subst, subst₂, inl, inr, ⊎_elim, arith}
+use Rattle.std.specs.List.{AllByRecursion}
 use lib.Bits.{bit_and, bit_or}
-use Rattle.std.proofs.lemmas.Bool.{cases_Bool}
+use Rattle.std.proofs.lemmas.Bool.{cases_Bool, cases_lt}
 use Rattle.access.specs.Operations.{has}
 use Rattle.access.specs.Contexts.{both_inside, member, FirstAbove}
 use Rattle.access.specs.declared.context_set.ContextSet.{ContextSet}
@@ -11,19 +12,18 @@ use Rattle.access.specs.Sound.{Sound}
 use Rattle.access.proofs.Bits.{has_none}
 use Rattle.access.proofs.Settings.{pair_parts}
 use Rattle.verdicts.specs.Runs.{Grants}
-use Rattle.verdicts.specs.Activities.{contact, domain, apart, Forbids}
-use Rattle.verdicts.specs.Possible.{granted, makeable, Can}
-use Rattle.verdicts.specs.Verdicts.{none, also}
+use Rattle.verdicts.specs.Activities.{Move, contact, domain, apart, Forbids}
+use Rattle.verdicts.specs.Possible.{granted, makeable, Can, CanMake}
+use Rattle.verdicts.specs.Verdicts.{none, also, Realises, NoneRealised}
+use Rattle.verdicts.specs.First.{way, Lower, FirstOf}
 use Rattle.verdicts.proofs.Reduction.{reduction}
-use Rattle.verdicts.proofs.Moves.{makeable_done, done_makeable}
+use Rattle.verdicts.proofs.Moves.{makeable_done, done_makeable, realised}
 use Rattle.verdicts.proofs.Domains.{domain_closed, domain_shortest}
-use Rattle.verdicts.proofs.Exists.{broken_by}
+use Rattle.verdicts.proofs.Exists.{shown_by}
 use Rattle.moves.specs.declared.step.Step.{Step}
-use Rattle.moves.specs.Moved.{stepped, ShownAs}
+use Rattle.moves.specs.Moved.{ShownAs}
 use Rattle.moves.specs.Contextual.{IsSetOf}
 use Rattle.moves.proofs.Selected.{makeable_shown}
-use Rattle.activities.specs.Found.{NoneRealised}
-use Rattle.judge.specs.Chosen.{FirstContact}
 use Rattle.judge.specs.Crossings.{Across, NoneAcross, AcrossFrom}
 use Rattle.judge.specs.Judged.{Tells}
 use Rattle.judge.specs.declared.verdict.Verdict.TheVariants.{Broken}
@@ -49,16 +49,49 @@ module _ (m : Meaning) (gs : Grants) (l : Sound m) (A : ℕ → Bool) where
       let e = subst₂ (λ x y. (1 ≤ x) × (x ≤ m.contexts) × (1 ≤ y) × (y ≤ m.contexts)) r.makes.by r.makes.on (can_inside i r.can) in
       never s e.0 e.1 t e.2 e.3 a i r.makes ((reduction m gs (i ∷ [])).1 (r.can, tt)))
 
-  pub contact_first : (ss : List Step) (r : Step) → m.contexts ≤ length ss → Across m gs A r → FirstContact m gs A (set ss 0 r) 1
-  contact_first [] r f h = absurd (omega (arith, l.a_context))
-  contact_first (x ∷ xs) r f h = record { one = refl; fits = omega arith; across = h }
+  -- the contact of a realised crossing is one
+  crossed : {ms : List Move} (h : Forbids m (domain A) ms) → Realises m gs ms → (1 ≤ h.subject) × (1 ≤ h.target) × (h.target ≤ m.contexts) × (NoneAcross m gs A h.subject h.target → ⊥)
+  crossed h r =
+      let d = makeable_done m gs (contact h.subject h.target) (subst (AllByRecursion (CanMake m gs)) h.only ((realised m gs _).0 r)).0 in
+      let i = d.interaction in
+      let e = subst₂ (λ x y. (1 ≤ x) × (x ≤ m.contexts) × (1 ≤ y) × (y ≤ m.contexts)) d.makes.by d.makes.on (can_inside i d.can) in
+      (e.0, e.2, e.3, λ none. none h.across i d.makes ((reduction m gs (i ∷ [])).1 (d.can, tt)))
 
-  pub contact_some : (ss : List Step) (r : Step) → m.contexts ≤ length ss → Across m gs A r → Tells m gs (Forbids m (domain A)) ss (set ss 0 r) (Broken 1)
+  -- no other one comes sooner
+  first_contact : (step : Step) (h : Across m gs A step) → FirstOf m gs (Forbids m (domain A)) false (contact h.subject h.on.target ∷ [])
+  first_contact step h ms f r e =
+      let c = crossed f r in
+      let s = h.subject in
+      let t = h.on.target in
+      subst (λ vs. (vs ≡ contact s t ∷ []) ⊎ Lower (s ∷ 2 ∷ t ∷ []) (way false vs)) (sym f.only)
+      (⊎_elim
+      (λ (l : f.subject < s). absurd (c.3 (h.before f.subject c.0 l f.target c.1 c.2)))
+      (λ (l : s ≤ f.subject).
+      ⊎_elim
+      (λ (k : s < f.subject). inr (inl k))
+      (λ (k : f.subject ≤ s).
+      let same : f.subject ≡ s = omega arith in
+      ⊎_elim
+      (λ (j : f.target < t). absurd (c.3 (subst (λ x. NoneAcross m gs A x f.target) (sym same) (h.on.sooner f.target c.1 j))))
+      (λ (j : t ≤ f.target).
+      ⊎_elim
+      (λ (i : t < f.target). inr (inr (sym same, inr (refl, inl i))))
+      (λ (i : f.target ≤ t). let on : f.target ≡ t = omega arith in inl (ap₂ (λ x y. contact x y ∷ []) same on))
+      (cases_lt t f.target))
+      (cases_lt f.target t))
+      (cases_lt s f.subject))
+      (cases_lt f.subject s))
+
+  pub contact_some : (ss : List Step) (r : Step) → m.contexts ≤ length ss → Across m gs A r → Tells m gs (Forbids m (domain A)) false ss (set ss 0 r) (Broken 1)
   contact_some [] r f h = absurd (omega (arith, l.a_context))
   contact_some (x ∷ xs) r f h =
-      let forbidden : Forbids m (domain A) (contact h.subject h.on.target ∷ []) = record { subject = h.subject; target = h.on.target; across = h.on.across; only = refl } in
-      let b = broken_by m gs {p = domain A} {vs = contact h.subject h.on.target ∷ []} {ss = stepped r ∷ []} forbidden (also h.on.shown none) (domain_shortest m gs A) in (
-        record { moves = contact h.subject h.on.target ∷ []; sought = forbidden; count = refl; shown = also h.on.shown none; legal = b.legal; shortest = domain_shortest m gs A; few = l.a_context },
+      let vs : List Move = contact h.subject h.on.target ∷ [] in
+      let forbidden : Forbids m (domain A) vs = record { subject = h.subject; target = h.on.target; across = h.on.across; only = refl } in (
+        record {
+          first = record { shown = shown_by m gs {Sought = Forbids m (domain A)} forbidden (also h.on.shown none) (domain_shortest m gs A); first = first_contact r h };
+          count = refl;
+          few = l.a_context;
+        },
         refl,
       )
 

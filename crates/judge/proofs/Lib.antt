@@ -3,4 +3,3 @@ mod Verdicts
 mod Crosses
 mod Sets
 mod Sources
-pub mod Chosen

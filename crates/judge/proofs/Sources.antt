@@ -1,8 +1,8 @@
 -- Consistency, source by source: the nearest source gives the verdict.
-use Rattle.std.proofs.Common.{◌≡◌, ℕ, suc, ◌+◌, ◌-◌, ◌*◌, Ok, Result, ap, ap₂, ◌∙◌, ◌≤◌, Bool, true, false, ◌&&◌, ◌||◌, T, eqb, ltb, leb, List, drop, Some, None, Option, sym, subst, subst₂, ⊎_elim, arith, leb→le, T_not}
+use Rattle.std.proofs.Common.{◌≡◌, ℕ, suc, ◌+◌, ◌-◌, ◌≤◌, Bool, true, false, ◌&&◌, ◌||◌, T, eqb, ltb, leb, List, drop, Some, None, Option, sym, subst, subst₂, ⊎_elim, arith, leb→le, T_not}
 use mathlib.Core.Path.{fun_ext}
 use lib.Dec.{not_T}
-use Rattle.std.proofs.lemmas.Bool.{cases_eq, cases_Bool, ne_eqb, and_right, ltb-true, ltb-false, cond-true, cond-false}
+use Rattle.std.proofs.lemmas.Bool.{cases_eq, cases_Bool, ltb-true, ltb-false, cond-true, cond-false}
 use Rattle.access.specs.Contexts.{inside, member, empty}
 use Rattle.access.specs.declared.context_set.ContextSet.{ContextSet}
 use Rattle.access.specs.Policy.{Meaning}
@@ -11,18 +11,13 @@ use Rattle.access.proofs.Tests.{both, both_parts}
 use Rattle.verdicts.specs.Runs.{Grants}
 use Rattle.verdicts.specs.Activities.{Flow, consistency, Forbids, ReadsDirectly}
 use Rattle.verdicts.specs.Laws.{AllInside}
+use Rattle.verdicts.specs.Verdicts.{NoneRealised, AtLeast}
+use Rattle.verdicts.proofs.Agreement.{same_length, shown_realised}
 use Rattle.verdicts.proofs.Decided.{direct_from, direct_found}
 use Rattle.moves.specs.declared.step.Step.{Step}
-use Rattle.activities.specs.Found.{Leads, NoneRealised, AtLeast, Found, Shortest, Measured, Searched}
+use Rattle.activities.specs.Found.{Leads, Found, Shortest, Measured, Searched}
 use Rattle.activities.proofs.Properties.{sources_none, source_found}
-use Rattle.access.specs.declared.refusal.Refusal.{Refusal}
-use Rattle.access.proofs.ContextLaws.{inside_from}
-use Rattle.verdicts.specs.Searches.{flowing}
-use Rattle.search.specs.Problem.{Problem}
-use Rattle.activities.specs.Nodes.{edge, source, target}
-use Rattle.seek.specs.Plan.{among, plan}
-use Rattle.seek.specs.Settled.{SettledIn, ShowsFirst}
-use Rattle.judge.specs.Chosen.{ShownFrom}
+use Rattle.seek.specs.Plan.{among}
 use Rattle.moves.specs.Done.{reads_alone}
 use Rattle.judge.specs.Flows.{is_unread, From, Nearest, Best, nearer_of}
 use Rattle.judge.specs.Judged.{Tells}
@@ -41,28 +36,8 @@ module _ (m : Meaning) (gs : Grants) (l : Sound m) (B : ℕ → Bool) (a : ℕ) 
     pub measured_from : (r : Option ℕ) → Measured m gs (Leads Flow (among m.contexts (member one)) (member rest)) r → Measured m gs (From m B a) r
     measured_from r = subst₂ (λ X Y. Measured m gs (Leads Flow X Y) r) (one_is m.contexts a none one low high l.few_contexts is_none is_one) (fun_ext is_rest)
 
-    -- the graph that is searched is the one from the source to what it may not read
-    among_one : (c : ℕ) → among m.contexts (λ x. eqb x a) c ≡ eqb c a
-    among_one c =
-        ⊎_elim
-        (λ (z : c ≡ a). ap (λ b. b && eqb c a) (inside_from m.contexts c (omega arith) (omega arith)))
-        (λ (z : c ≡ a → ⊥). and_right (inside m.contexts c) (eqb c a) (ne_eqb c a z) ∙ sym (ne_eqb c a z))
-        (cases_eq c a)
-
-    same_plan : plan flowing m gs (member one) (member rest) ≡ plan flowing m gs (λ c. eqb c a) (is_unread m B a)
-    same_plan =
-        ap₂ (λ (X Y : ℕ → Bool). let q : Problem = record { nodes = 1 * m.contexts; edge = edge flowing m gs; source = source m.contexts X; target = target m.contexts Y } in q)
-        (one_is m.contexts a none one low high l.few_contexts is_none is_one ∙ sym (fun_ext among_one)) (fun_ext is_rest)
-
-    pub shown_from : (ss : List Step) (found : Option ℕ) {r : Result (Option ℕ) Refusal} → r ≡ Ok found → ShowsFirst flowing m gs true (member one) (member rest) ss r → ShownFrom m gs B a ss found
-    shown_from ss found e h = go found (subst (ShowsFirst flowing m gs true (member one) (member rest) ss) e h)
-      where
-        go : (found : Option ℕ) → ShowsFirst flowing m gs true (member one) (member rest) ss (Ok found) → ShownFrom m gs B a ss found
-        go None h = tt
-        go (Some k) h = subst (λ p. SettledIn p flowing m gs true ss k) same_plan h
-
-    pub searched_from : (ss ss' : List Step) (r : Option ℕ) → Searched m gs (Leads Flow (among m.contexts (member one)) (member rest)) ss ss' r → Searched m gs (From m B a) ss ss' r
-    searched_from ss ss' r = subst₂ (λ X Y. Searched m gs (Leads Flow X Y) ss ss' r) (one_is m.contexts a none one low high l.few_contexts is_none is_one) (fun_ext is_rest)
+    pub searched_from : (ss ss' : List Step) (r : Option ℕ) → Searched m gs (Leads Flow (among m.contexts (member one)) (member rest)) true ss ss' r → Searched m gs (From m B a) true ss ss' r
+    searched_from ss ss' r = subst₂ (λ X Y. Searched m gs (Leads Flow X Y) true ss ss' r) (one_is m.contexts a none one low high l.few_contexts is_none is_one) (fun_ext is_rest)
 
 -- ---- the best source
 
@@ -128,16 +103,17 @@ module _ (m : Meaning) (gs : Grants) (A B : ℕ → Bool) where
     bounds : (a : ℕ) → T (A a) → (1 ≤ a) × (a ≤ n)
     bounds a h = let i = both_parts (leb 1 a) (leb a n) (ins_A a h) in (leb→le 1 a i.0, leb→le a n i.1)
 
-    pub flow_none : (ss ss' : List Step) → ss' ≡ ss → ((a : ℕ) → 1 ≤ a → a ≤ m.contexts → T (A a) → NoneRealised m gs (From m B a)) → Tells m gs (Forbids m (consistency A B)) ss ss' Guaranteed
+    pub flow_none : (ss ss' : List Step) → ss' ≡ ss → ((a : ℕ) → 1 ≤ a → a ≤ m.contexts → T (A a) → NoneRealised m gs (From m B a)) → Tells m gs (Forbids m (consistency A B)) true ss ss' Guaranteed
     flow_none ss ss' e none = (sources_none m gs A B (is_unread m B) fails (λ a h. let i = bounds a h in none a i.0 i.1 h), e)
 
-    pub flow_some : (q : Near) → Nearest m gs A B m.contexts q → (ss ss' : List Step) (k : ℕ) → Found m gs (From m B q.source) ss' k × (drop k ss' ≡ drop k ss) → Tells m gs (Forbids m (consistency A B)) ss ss' (Broken k)
+    pub flow_some : (q : Near) → Nearest m gs A B m.contexts q → (ss ss' : List Step) (k : ℕ) → Found m gs (From m B q.source) true ss' k × (drop k ss' ≡ drop k ss) → Tells m gs (Forbids m (consistency A B)) true ss ss' (Broken k)
     flow_some q best ss ss' k h =
         let f = h.0 in
         let s = best.found in
-        let few : k ≤ q.steps = omega (arith, f.shortest s.moves s.sought s.realises, s.count) in (
+        let all : q.steps ≡ k = omega (arith, f.count, f.first.shown.shortest s.moves s.sought s.realises, s.count, s.shortest f.first.shown.moves f.first.shown.sought (shown_realised m gs f.first.shown), same_length f.first.shown.shown) in (
           source_found m gs A B (is_unread m B) fails q.source best.member
               (λ b u. let y = both_parts (B b) _ u in (y.0, λ r. T_not (reads_alone m q.source b) y.1 (direct_from m q.source b r)))
-              ss' k (λ c t ms g r. let i = bounds c t in omega (arith, best.least c i.0 i.1 t ms g r)) f,
+              ss' k (λ c t ms g r. let i = bounds c t in omega (arith, best.least c i.0 i.1 t ms g r))
+              (λ c t d ms g r. omega (arith, best.farther c (bounds c t).0 d t ms g r)) f,
           h.1,
         )

@@ -4,7 +4,8 @@ use Rattle.access.specs.Policy.{Meaning}
 use Rattle.verdicts.specs.Runs.{Grants}
 use Rattle.verdicts.specs.Activities.{Move, Flow}
 use Rattle.moves.specs.Done.{reads_alone}
-use Rattle.activities.specs.Found.{Leads, NoneRealised, AtLeast, Shortest}
+use Rattle.verdicts.specs.Verdicts.{NoneRealised, AtLeast}
+use Rattle.activities.specs.Found.{Leads, Shortest}
 use Rattle.judge.specs.declared.flow.Near.{Near}
 
 -- whether b is in B, and the policy alone does not let a read it

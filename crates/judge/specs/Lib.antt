@@ -1,4 +1,3 @@
 pub mod Judged
 pub mod Crossings
 pub mod Flows
-pub mod Chosen

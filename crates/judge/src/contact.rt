@@ -1,17 +1,17 @@
 //! Domains: a look at each context.
-ghost use Rattle.std.specs.Prelude.{◌≡◌, ℕ, ◌<◌, ◌≤◌, ◌&&◌, length, MatchOption, Some, None};
+ghost use Rattle.std.specs.Prelude.{◌≡◌, ℕ, ◌<◌, ◌≤◌, false, ◌&&◌, length, MatchOption, Some, None, slice_set};
 ghost use Rattle.access.specs.Contexts.{member};
 ghost use Rattle.verdicts.specs.Activities.{contact, domain, apart, Forbids};
 ghost use Rattle.verdicts.specs.Possible.{makeable};
 ghost use Rattle.moves.specs.Regimes.{meaning_of, grants_of};
 ghost use Rattle.moves.specs.Contextual.{IsSetOf};
 ghost use Rattle.judge.specs.Judged.{Tells};
-ghost use Rattle.judge.specs.Chosen.{FirstContact, WithSteps};
 ghost use Rattle.judge.specs.Crossings.{AcrossFrom, AcrossAll};
 
 use crate::verdict::Verdict;
 use access::context_set::ContextSet;
 use access::policy::Policy;
+use lent::List;
 use moves::movement::{Link, Move};
 use moves::moves::Moves;
 use moves::step::Step;
@@ -36,6 +36,18 @@ fn first_step<F: Fn(u16) -> Option<Step>>(contexts: u16, look: F) -> Option<Step
         }
     }
     None
+}
+
+/// Writes a step in front of the lent ones, and says how many are written.
+fn write(step: Step, steps: &mut [Step]) -> usize
+    requires { 1 ≤ length steps.old }
+    ensures count { result ≡ 1 }
+    ensures written { steps.new ≡ slice_set steps.old 0 step }
+{
+    let mut shown = List::over(steps);
+    // There is room.
+    let _ = shown.push(step);
+    shown.len()
 }
 
 impl<P: Policy> Domain<'_, P> {
@@ -69,14 +81,12 @@ impl<P: Policy> Domain<'_, P> {
     /// Judges a domain.
     pub(crate) fn judge(&self, steps: &mut [Step]) -> Verdict
         requires { (meaning_of P.Policy.meaning self.now.moves.now.regime).contexts ≤ length steps.old }
-        ensures told { Tells (meaning_of P.Policy.meaning self.now.moves.now.regime) (grants_of self.now.moves.now.regime) (Forbids (meaning_of P.Policy.meaning self.now.moves.now.regime) (domain (member self.now.set))) steps.old steps.new result }
-        ensures first { WithSteps (FirstContact (meaning_of P.Policy.meaning self.now.moves.now.regime) (grants_of self.now.moves.now.regime) (member self.now.set) steps.new) result }
+        ensures { Tells (meaning_of P.Policy.meaning self.now.moves.now.regime) (grants_of self.now.moves.now.regime) (Forbids (meaning_of P.Policy.meaning self.now.moves.now.regime) (domain (member self.now.set))) false steps.old steps.new result }
     {
         match self.crossing() {
-            Some(step) => {
-                steps[0] = step;
-                Verdict::Broken { steps: 1 }
-            }
+            Some(step) => Verdict::Broken {
+                steps: write(step, steps),
+            },
             None => Verdict::Guaranteed,
         }
     }

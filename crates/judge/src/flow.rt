@@ -1,5 +1,5 @@
 //! Consistency: a search from each source.
-ghost use Rattle.std.specs.Prelude.{◌≡◌, ℕ, ◌-◌, ◌≤◌, length, replicate};
+ghost use Rattle.std.specs.Prelude.{◌≡◌, ℕ, ◌-◌, ◌≤◌, true, length, replicate};
 ghost use Rattle.access.specs.Contexts.{member};
 ghost use Rattle.verdicts.specs.Activities.{consistency, Forbids};
 ghost use Rattle.verdicts.specs.Laws.{AllInside};
@@ -8,7 +8,6 @@ ghost use Rattle.moves.specs.Contextual.{IsSetOf};
 ghost use Rattle.activities.specs.Found.{Measured, Searched};
 ghost use Rattle.seek.specs.Sought.{SearchRoom, Suffices};
 ghost use Rattle.judge.specs.Judged.{Tells};
-ghost use Rattle.judge.specs.Chosen.{ShownFrom, FirstFlow, WithSteps};
 ghost use Rattle.judge.specs.Flows.{is_unread, From, Best, nearer_of};
 
 use crate::verdict::Verdict;
@@ -117,8 +116,7 @@ impl<P: Policy> Flows<'_, P> {
         requires first { 1 ≤ a }
         requires last { a ≤ (meaning_of P.Policy.meaning self.now.moves.now.regime).contexts }
         requires fits { Suffices 2 (meaning_of P.Policy.meaning self.now.moves.now.regime).contexts ticks.old places.old steps.old }
-        ensures shown { Searched (meaning_of P.Policy.meaning self.now.moves.now.regime) (grants_of self.now.moves.now.regime) (From (meaning_of P.Policy.meaning self.now.moves.now.regime) (member self.now.to) a) steps.old steps.new result }
-        ensures first { ShownFrom (meaning_of P.Policy.meaning self.now.moves.now.regime) (grants_of self.now.moves.now.regime) (member self.now.to) a steps.new result }
+        ensures shown { Searched (meaning_of P.Policy.meaning self.now.moves.now.regime) (grants_of self.now.moves.now.regime) (From (meaning_of P.Policy.meaning self.now.moves.now.regime) (member self.now.to) a) true steps.old steps.new result }
         ensures ticks { ticks.new ≡ replicate (length ticks.old) 0 }
     {
         let one = ContextSet::none().with(a);
@@ -135,8 +133,7 @@ impl<P: Policy> Flows<'_, P> {
         requires fits { Suffices 2 (meaning_of P.Policy.meaning self.now.moves.now.regime).contexts ticks.old places.old steps.old }
         requires from { AllInside (meaning_of P.Policy.meaning self.now.moves.now.regime).contexts (member self.now.from) }
         requires to { AllInside (meaning_of P.Policy.meaning self.now.moves.now.regime).contexts (member self.now.to) }
-        ensures told { Tells (meaning_of P.Policy.meaning self.now.moves.now.regime) (grants_of self.now.moves.now.regime) (Forbids (meaning_of P.Policy.meaning self.now.moves.now.regime) (consistency (member self.now.from) (member self.now.to))) steps.old steps.new result }
-        ensures first { WithSteps (FirstFlow (meaning_of P.Policy.meaning self.now.moves.now.regime) (grants_of self.now.moves.now.regime) (member self.now.from) (member self.now.to) steps.new) result }
+        ensures told { Tells (meaning_of P.Policy.meaning self.now.moves.now.regime) (grants_of self.now.moves.now.regime) (Forbids (meaning_of P.Policy.meaning self.now.moves.now.regime) (consistency (member self.now.from) (member self.now.to))) true steps.old steps.new result }
         ensures ticks { ticks.new ≡ replicate (length ticks.old) 0 }
     {
         match self.nearest(ticks, places) {

@@ -4,7 +4,6 @@ ghost use Rattle.access.specs.Refusals.{answer};
 ghost use Rattle.verdicts.specs.Laws.{OfContexts};
 ghost use Rattle.moves.specs.Regimes.{meaning_of, grants_of};
 ghost use Rattle.seek.specs.Sought.{Suffices};
-ghost use Rattle.judge.specs.Chosen.{OneShowing};
 ghost use Rattle.judge.specs.Judged.{property_of, Judged, judging_refusal, Answered};
 
 use crate::contact::Domain;
@@ -87,8 +86,3 @@ pub fn judge<'a, P: Policy>(
     }
     Ok(decide(moves, property, ticks, places, steps))
 }
-
-/// Whoever judges a property shows it by the same steps.
-pub fn one_showing_stands()
-    ensures { OneShowing }
-{}

@@ -4,9 +4,7 @@ ghost use Rattle.access.specs.Contexts.{member};
 ghost use Rattle.moves.specs.Regimes.{meaning_of, grants_of};
 ghost use Rattle.activities.specs.Found.{Leads};
 ghost use Rattle.seek.specs.Plan.{among};
-ghost use Rattle.seek.specs.Settled.{Settled};
 ghost use Rattle.seek.specs.Sought.{Suffices};
-ghost use Rattle.judge.specs.Chosen.{WithSteps};
 ghost use Rattle.judge.specs.Judged.{Tells};
 
 use crate::verdict::Verdict;
@@ -29,8 +27,7 @@ pub(crate) fn by_search<'a, A: Activity, P: Policy>(
     steps: &mut [Step],
 ) -> Verdict
     requires { Suffices 2 (meaning_of P.Policy.meaning moves.now.regime).contexts ticks.old places.old steps.old }
-    ensures told { Tells (meaning_of P.Policy.meaning moves.now.regime) (grants_of moves.now.regime) (Leads A.Activity.activities (among (meaning_of P.Policy.meaning moves.now.regime).contexts (member from)) (member to)) steps.old steps.new result }
-    ensures first { WithSteps (Settled A.Activity.kind (meaning_of P.Policy.meaning moves.now.regime) (grants_of moves.now.regime) A.Activity.BACKWARDS (member from) (member to) steps.new) result }
+    ensures told { Tells (meaning_of P.Policy.meaning moves.now.regime) (grants_of moves.now.regime) (Leads A.Activity.activities (among (meaning_of P.Policy.meaning moves.now.regime).contexts (member from)) (member to)) A.Activity.BACKWARDS steps.old steps.new result }
     ensures ticks { ticks.new ≡ replicate (length ticks.old) 0 }
 {
     match seek::<A, P>(moves, from, to, ticks, places, steps).unwrap() {

@@ -43,9 +43,8 @@ module _ (b : Book) (ss ss' rest : List Step) (room : b.policy.contexts ≤ leng
   verdict : (p : Property) (v : Verdict) → VerdictOn b p ss ss' v → Shows b p (reply_to (ss' ++ rest) (Ok v)) × ((reply_to (ss' ++ rest) (Ok v) ≡ guaranteed) ↔ Holds b.policy (standing_grants b) (property_of p))
   verdict p Guaranteed (told, same) = (told.0, ((λ e. told.0), λ h. refl))
   verdict p (Broken n) (told, same) =
-      let few = told.2 in
-      let front : take n (ss' ++ rest) ≡ take n ss' = take-append-le n ss' rest (omega arith) in
-      (rw front (told.0, record { lent = ss'; count = n; chosen = told.3; are = refl }), ((λ e. absurd (grind arith)), λ h. let e = same.1 h in absurd (grind arith)))
+      let front : take n (ss' ++ rest) ≡ take n ss' = take-append-le n ss' rest (omega (arith, told.0.few)) in
+      (rw front told.0.first, ((λ e. absurd (grind arith)), λ h. let e = same.1 h in absurd (grind arith)))
 
   on_entry : (o : Option Property) (v : Verdict) → VerdictOnEntry b o ss ss' v → VerdictIs b o (reply_to (ss' ++ rest) (Ok v))
   on_entry (Some p) v told = verdict p v told

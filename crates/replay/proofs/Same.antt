@@ -2,28 +2,24 @@
 use Rattle.std.proofs.Common.{◌≡◌, ℕ, List, [], ◌∷◌, Some, None, Option, sym, refl, ap, ap₂, ◌∙◌, arith}
 use Rattle.access.specs.declared.refusal.Refusal.{Refusal}
 use Rattle.verdicts.specs.Verdicts.{Step}
+use Rattle.verdicts.proofs.First.{one_first}
 use Rattle.properties.specs.declared.property.Property.{Property}
-use Rattle.judge.specs.Judged.{property_of}
-use Rattle.judge.proofs.Chosen.{one_showing}
 use Rattle.sheet.specs.Book.{Book, refusal, fed}
 use Rattle.sheet.specs.Judging.{standing_grants}
 use Rattle.sheet.specs.declared.request.Request.{Request}
 use Rattle.sheet.specs.declared.request.Request.TheVariants.{Set, EnterGrant, StrikeGrant, EnterProperty, StrikeProperty, Open, Adopt, Withdraw, Judge, AskSettings, AskContexts, AskCapacity, AskWritten, AskPermitted}
-use Rattle.replay.specs.Replies.{Reply, accepted, refused, guaranteed, broken, number, operations, Choice, Verdict, Tells, RightWhere, Replies, none, next, SameReplies}
+use Rattle.replay.specs.Replies.{Reply, accepted, refused, guaranteed, broken, number, operations, Verdict, Tells, RightWhere, Replies, none, next, SameReplies}
 
 apart : {X : Type 0} (ss : List Step) → broken ss ≡ guaranteed → X
 apart ss e = let z : ◌≡◌ {A = ℕ} 0 1 = cc in absurd (omega arith)
 
 module _ (b : Book) where
-  one_choice : (p : Property) (ss rr : List Step) → Choice b p ss → Choice b p rr → ss ≡ rr
-  one_choice p ss rr x y = x.are ∙ (one_showing b.policy (standing_grants b) (property_of p) x.lent y.lent x.count y.count x.chosen y.chosen).1 ∙ sym y.are
-
   one_verdict : (o : Option Property) (r s : Reply) → Verdict b o r → Verdict b o s → r ≡ s
   one_verdict None r s x y = absurd x
   one_verdict (Some p) guaranteed guaranteed x y = refl
   one_verdict (Some p) guaranteed (broken ss) x y = apart ss (y.1.1 x.0)
   one_verdict (Some p) (broken rr) guaranteed x y = apart rr (x.1.1 y.0)
-  one_verdict (Some p) (broken rr) (broken ss) x y = ap broken (one_choice p rr ss x.0.1 y.0.1)
+  one_verdict (Some p) (broken rr) (broken ss) x y = ap broken (one_first b.policy (standing_grants b) x.0 y.0)
   one_verdict (Some p) guaranteed accepted x y = absurd y.0
   one_verdict (Some p) guaranteed (refused a) x y = absurd y.0
   one_verdict (Some p) guaranteed (number a) x y = absurd y.0

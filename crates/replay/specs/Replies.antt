@@ -2,12 +2,10 @@
 use Rattle.std.specs.Prelude.{◌≡◌, ℕ, ◌↔◌, List, [], ◌∷◌, map, take, Some, None, Option}
 use Rattle.access.specs.Refusals.{refusal_number}
 use Rattle.access.specs.declared.refusal.Refusal.{Refusal}
-use Rattle.verdicts.specs.Verdicts.{Step, Guaranteed as Holds, Broken as Breaks}
+use Rattle.verdicts.specs.Verdicts.{Step, Guaranteed as Holds}
+use Rattle.verdicts.specs.First.{BrokenBy}
 use Rattle.moves.specs.Moved.{stepped}
 use Rattle.properties.specs.declared.property.Property.{Property}
-use Rattle.moves.specs.declared.step.Step.{Step as LentStep}
-use Rattle.activities.specs.Found.{first_steps}
-use Rattle.judge.specs.Chosen.{Chosen}
 use Rattle.judge.specs.Judged.{property_of}
 use Rattle.sheet.specs.Book.{Book, refusal, fed}
 use Rattle.sheet.specs.Judging.{standing_grants}
@@ -34,18 +32,11 @@ reply_of (Broken steps count) = broken (map stepped (take count steps))
 reply_of (Number x) = number x
 reply_of (Operations set) = operations set.bits
 
--- the steps are the first of a list by which a judging shows the property: of activities that are as short, those of the first
-pub record Choice (b : Book) (p : Property) (steps : List Step) : Type 0 where
-  pub lent : List LentStep
-  pub count : ℕ
-  pub chosen : Chosen b.policy (standing_grants b) (property_of p) lent count
-  pub are : steps ≡ first_steps count lent
-
--- the reply shows the verdict: no legal run, of any length, realises an activity that the property forbids, or the steps show
--- the shortest that one realises, and of those the first
+-- the reply shows the verdict: no legal run, of any length, realises an activity that the property forbids, or the steps show the
+-- first of the shortest that one realises
 abbrev pub Shows : Book → Property → Reply → Type 0
 Shows b p guaranteed = Holds b.policy (standing_grants b) (property_of p)
-Shows b p (broken steps) = Breaks b.policy (standing_grants b) (property_of p) steps × Choice b p steps
+Shows b p (broken steps) = BrokenBy b.policy (standing_grants b) (property_of p) steps
 Shows b p accepted = ⊥
 Shows b p (refused x) = ⊥
 Shows b p (number x) = ⊥

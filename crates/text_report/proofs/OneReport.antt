@@ -6,13 +6,12 @@ use Rattle.access.specs.declared.operation.Operation.{Operation}
 use Rattle.access.specs.declared.operation.Operation.TheVariants.{Read, Write, Append, Update, Execute, Become, Stat, Lock, Unlock, Signal, Send, Receive}
 use Rattle.std.specs.Prelude.{slice_index_or, decimal}
 use Rattle.verdicts.specs.Verdicts.{Step as Stepping}
+use Rattle.verdicts.proofs.First.{one_first}
 use Rattle.moves.specs.Moved.{stepped}
 use Rattle.moves.specs.declared.step.Step.{Step}
 use Rattle.properties.specs.declared.property.Property.{Property}
-use Rattle.judge.specs.Judged.{property_of}
 use Rattle.judge.specs.declared.verdict.Verdict.{Verdict}
 use Rattle.judge.specs.declared.verdict.Verdict.TheVariants.{Guaranteed, Broken}
-use Rattle.judge.proofs.Chosen.{one_showing}
 use Rattle.sheet.specs.Book.{Book}
 use Rattle.sheet.specs.Judging.{standing_grants, VerdictOn, VerdictOnEntry}
 use Rattle.report.specs.Parts.{broken, said}
@@ -64,8 +63,7 @@ one_said b p names ss ss' rr rr' Guaranteed Guaranteed h g = refl
 one_said b p names ss ss' rr rr' Guaranteed (Broken k) h g = apart k (g.1.1 (h.1.0 refl))
 one_said b p names ss ss' rr rr' (Broken j) Guaranteed h g = apart j (h.1.1 (g.1.0 refl))
 one_said b p names ss ss' rr rr' (Broken j) (Broken k) h g =
-    let e = one_showing b.policy (standing_grants b) (property_of p) ss' rr' j k h.0.3 g.0.3 in
-    ap (λ (xs : List Step). broken xs names) (told_by_meaning (take j ss') (take k rr') e.1)
+    ap (λ (xs : List Step). broken xs names) (told_by_meaning (take j ss') (take k rr') (one_first b.policy (standing_grants b) h.0.0.first g.0.0.first))
 
 one_entry : (b : Book) (o : Option Property) (names : List (List ℕ)) (ss ss' rr rr' : List Step) (v w : Verdict) → VerdictOnEntry b o ss ss' v → VerdictOnEntry b o rr rr' w → said v ss' names ≡ said w rr' names
 one_entry b None names ss ss' rr rr' v w h g = absurd h

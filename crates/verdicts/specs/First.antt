@@ -2,7 +2,7 @@
 use Rattle.std.specs.Prelude.{◌≡◌, ℕ, ◌<◌, Bool, true, false, cond, ◌⊎◌, List, [], ◌∷◌, ◌++◌, flat_map, length}
 use Rattle.access.specs.Policy.{Meaning}
 use Rattle.verdicts.specs.Runs.{Grants}
-use Rattle.verdicts.specs.Activities.{Move, transition, transfer, contact, Property, integrity, confidentiality, domain, consistency}
+use Rattle.verdicts.specs.Activities.{Move, transition, transfer, contact, Property, integrity, confidentiality, domain, consistency, Forbids}
 use Rattle.verdicts.specs.Verdicts.{Realises, Step, ShortestShown}
 
 -- by a pull or a flow information is fetched: the way leads back to where it comes from
@@ -47,3 +47,7 @@ FirstOf m gs Sought back moves = (ms : List Move) → Sought ms → Realises m g
 pub record FirstShown (m : Meaning) (gs : Grants) (Sought : List Move → Type 0) (back : Bool) (steps : List Step) : Type 0 where
   pub shown : ShortestShown m gs Sought steps
   pub first : FirstOf m gs Sought back shown.moves
+
+-- a property is broken, and these are the steps that are shown of it
+abbrev pub BrokenBy : Meaning → Grants → Property → List Step → Type 0
+BrokenBy m gs p steps = FirstShown m gs (Forbids m p) (fetches p) steps

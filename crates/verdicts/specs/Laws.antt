@@ -5,10 +5,10 @@ use Rattle.access.specs.Contexts.{inside}
 use Rattle.access.specs.Policy.{Meaning, Interaction}
 use Rattle.access.specs.Sound.{Sound}
 use Rattle.verdicts.specs.Runs.{Grants, Legal}
-use Rattle.verdicts.specs.Activities.{Move, Property, integrity, confidentiality, domain, consistency, Forbids}
+use Rattle.verdicts.specs.Activities.{Move, Property, integrity, confidentiality, domain, consistency}
 use Rattle.verdicts.specs.Possible.{Can, CanMake}
 use Rattle.verdicts.specs.Verdicts.{Realises, Guaranteed, Step, Broken}
-use Rattle.verdicts.specs.First.{fetches, FirstShown}
+use Rattle.verdicts.specs.First.{BrokenBy}
 
 -- each member of a set is a context
 abbrev pub AllInside : ℕ → (ℕ → Bool) → Type 0
@@ -35,5 +35,5 @@ pub record VerdictLaws : Type 0 where
   pub number : (m : Meaning) (gs : Grants) (p : Property) (ss rr : List Step) → Broken m gs p ss → Broken m gs p rr → length ss ≡ length rr
   -- there are no more steps than contexts
   pub few : (m : Meaning) (gs : Grants) → Sound m → (p : Property) (ss : List Step) → Broken m gs p ss → length ss ≤ m.contexts
-  -- the first of the shortest activities is shown by one list of steps
-  pub once : (m : Meaning) (gs : Grants) (p : Property) (ss rr : List Step) → FirstShown m gs (Forbids m p) (fetches p) ss → FirstShown m gs (Forbids m p) (fetches p) rr → ss ≡ rr
+  -- the steps that are shown of a broken property are one list
+  pub once : (m : Meaning) (gs : Grants) (p : Property) (ss rr : List Step) → BrokenBy m gs p ss → BrokenBy m gs p rr → ss ≡ rr

@@ -8,7 +8,6 @@ pub returns-in-None : goal.returns-in-None
 returns-in-None g c =
     record {
       told = flow_none (meaning_of g.P.Policy.meaning c.args.self.now.moves.now.regime) (grants_of c.args.self.now.moves.now.regime) (member c.args.self.now.from) (member c.args.self.now.to) c.requires.from c.requires.to c.args.steps.now c.args.steps.now refl c.in-None.ensures;
-      first = tt;
       ticks = search rules;
     }
 
