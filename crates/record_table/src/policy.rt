@@ -25,7 +25,7 @@ impl RecordTable {
         }
     }
 
-    /// Every record is in exactly one chain, and a pair has at most one record: this holds of every table.
+    /// Every record is in exactly one chain, every chain ends, and a pair has at most one record: this holds of every table.
     pub fn chains_stand(&self)
         ensures { TableChained self.now }
     {}
