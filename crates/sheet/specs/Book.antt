@@ -1,12 +1,12 @@
 -- The book: what stands on a sheet, told from the calls alone.
 use Rattle.std.specs.Prelude.{ℕ, ◌+◌, ◌*◌, min, Bool, false, not, ◌||◌, List, [], ◌∷◌, is_some, Some, None, Option, ◌==◌, nat_le, nat_lt}
 use Rattle.access.specs.Operations.{unknown}
-use Rattle.access.specs.Contexts.{inside, both_inside, has_above, empty, meet}
+use Rattle.access.specs.Contexts.{inside, has_above, empty, meet}
 use Rattle.access.specs.Policy.{Matrix, Meaning, with_written}
 use Rattle.access.specs.Refusals.{first_of, when_accepted}
-use Rattle.access.specs.Setting.{no_room, with_set}
+use Rattle.access.specs.Setting.{setting_rungs, no_room, with_set}
 use Rattle.access.specs.declared.refusal.Refusal.{Refusal}
-use Rattle.access.specs.declared.refusal.Refusal.TheVariants.{NumberOutside, StandsAlready, StandsNot, ContextOutside, UnfitOperations, UnfitSet, SharedContext, OpenAlready, NoneOpen, NotesFull, PolicyFull, ShortMemory}
+use Rattle.access.specs.declared.refusal.Refusal.TheVariants.{NumberOutside, StandsAlready, StandsNot, UnfitOperations, UnfitSet, SharedContext, OpenAlready, NoneOpen, ShortMemory}
 use Rattle.entries.specs.Entries.{Entries, put}
 use Rattle.entries.specs.Standing.{striking_refusal}
 use Rattle.access.specs.declared.context_set.ContextSet.{ContextSet}
@@ -56,13 +56,7 @@ short n ticks places steps = nat_lt ticks (2 * n) || nat_lt places (2 * n) || na
 
 -- the refusal of a call: the first of its list that applies
 abbrev pub refusal : Book → Request → Option Refusal
-refusal b (Set s t ops) =
-    first_of (
-    (not (both_inside b.policy.contexts s t), ContextOutside)
-    ∷ (unknown ops.bits, UnfitOperations)
-    ∷ (notes_full b.change, NotesFull)
-    ∷ (no_room b.policy s t ops.bits, PolicyFull)
-    ∷ [])
+refusal b (Set s t ops) = first_of (setting_rungs b.policy.contexts s t ops.bits (notes_full b.change) (no_room b.policy s t ops.bits))
 refusal b (EnterGrant k g) =
     first_of (
     (not (inside 32 k), NumberOutside)
