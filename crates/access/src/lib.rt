@@ -8,3 +8,4 @@ pub mod operation;
 pub mod operation_set;
 pub mod policy;
 pub mod refusal;
+pub mod setting;

@@ -1,5 +1,5 @@
 //! What every policy answers, and how it is set.
-ghost use Rattle.std.specs.Prelude.{◌≡◌};
+ghost use Rattle.std.specs.Prelude.{◌≡◌, OnErr};
 ghost use Rattle.access.specs.Policy.{Meaning};
 ghost use Rattle.access.specs.Sound.{Sound};
 ghost use Rattle.access.specs.Refusals.{answer};
@@ -28,10 +28,11 @@ pub trait Policy {
     fn permitted(&self, subject: u16, target: u16) -> OperationSet
         ensures { result.bits ≡ (meaning self.now).permitted subject target };
 
-    /// Replaces the written set of a pair, or is refused and alters nothing.
+    /// Replaces the written set of a pair, or is refused and leaves the policy itself as it was, and not only its meaning.
     fn set(&mut self, subject: u16, target: u16, operations: OperationSet) -> Result<(), Refusal>
         ensures told { result ≡ answer (setting_refusal (meaning self.old) subject target operations.bits) }
-        ensures done { meaning self.new ≡ after_setting (meaning self.old) subject target operations.bits };
+        ensures done { meaning self.new ≡ after_setting (meaning self.old) subject target operations.bits }
+        ensures kept { OnErr result (self.new ≡ self.old) };
 
     ghost sound: { (p : Self) → Sound (meaning p) };
 }

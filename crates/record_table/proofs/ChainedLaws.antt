@@ -1,6 +1,6 @@
--- Every record is in exactly one chain, and a pair has at most one record.
-use Rattle.std.proofs.Common.{◌≡◌, ℕ, zero, suc, ◌≤◌, List, [], ◌∷◌, sym, refl, ap, ◌∙◌, inl, inr, arith}
-use mathlib.Core.Logic.{∥∥₁_elim, ∥∥₁_prop}
+-- Every record is in exactly one chain, every chain ends, and a pair has at most one record.
+use Rattle.std.proofs.Common.{◌≡◌, ℕ, zero, suc, ◌≤◌, List, [], ◌∷◌, length, sym, refl, ap, ◌∙◌, inl, inr, arith}
+use mathlib.Core.Logic.{∥∥₁_elim, ∥∥₁_map, ∥∥₁_prop}
 use native.Mathlib.Nat.{ℕ_set}
 use native.Mathlib.Bridge.{le_prop}
 use Rattle.record_table.specs.declared.chains.Record.{Record}
@@ -9,6 +9,7 @@ use Rattle.record_table.specs.Chains.{numbered, first_of}
 use Rattle.record_table.specs.Laid.{In, Linked, Fit, Tidy, Laid}
 use Rattle.record_table.specs.Chained.{along, On, InOne, TableChained}
 use Rattle.record_table.specs.ChainsLemmas.{in_owner, differs}
+use Rattle.record_table.specs.Steps.{next_low}
 
 -- a place in the list is a number of links
 in_along : (mem : ℕ → Record) (owner : ℕ → ℕ) (c h x : ℕ) (ys : List ℕ) → Linked mem owner c h ys → In x ys → (k : ℕ) × (along k mem h ≡ x)
@@ -21,6 +22,11 @@ in_along mem owner c h x (y ∷ ys) l (inr m) =
 along_end : (mem : ℕ → Record) → (mem 0).next ≡ 0 → (k : ℕ) → along k mem 0 ≡ 0
 along_end mem e zero = refl
 along_end mem e (suc k) = ap (along k mem) e ∙ along_end mem e k
+
+-- behind its last record a chain leads to none
+to_end : (mem : ℕ → Record) (owner : ℕ → ℕ) (c h : ℕ) (ys : List ℕ) → Linked mem owner c h ys → along (length ys) mem h ≡ 0
+to_end mem owner c h [] l = l
+to_end mem owner c h (y ∷ ys) l = ap (λ (z : ℕ). along (length ys) mem (mem z).next) l.0 ∙ to_end mem owner c (mem y).next ys l.5
 
 -- links from a chain's first number lead to a record of the list, or to none
 along_in : (mem : ℕ → Record) (owner : ℕ → ℕ) → (mem 0).next ≡ 0 → (c h x k : ℕ) (ys : List ℕ) → Linked mem owner c h ys → 1 ≤ x → along k mem h ≡ x → In x ys
@@ -63,6 +69,9 @@ module _ (n : ℕ) (first : ℕ → ℕ) (mem : ℕ → Record) (none : (mem 0).
 pub table_chained : (p : RecordTable) → TableChained p
 table_chained p = record {
   one_chain = λ x low high. ∥∥₁_elim p.laid ∥∥₁_prop (λ l. one_chain_is n first mem refl l x low high);
+  ended = λ c h. ∥∥₁_map p.laid (λ l. (length (l.chains c), to_end mem l.owner c (first c) (l.chains c) (l.linked c h)));
+  heads_low = λ c h. p.firsts c;
+  links_low = next_low p.chains.slots p.links;
   in_use = λ c x c1 h low on. ∥∥₁_elim p.laid (fit_prop (mem x)) (λ l. ∥∥₁_elim on (fit_prop (mem x)) (λ k. in_use_is n first mem refl l c x k.0 c1 h low k.1));
   one_record = λ c x y c1 h x1 y1 a b e. ∥∥₁_elim p.laid (ℕ_set _ _) (λ l. ∥∥₁_elim a (ℕ_set _ _) (λ k. ∥∥₁_elim b (ℕ_set _ _) (λ j. one_record_is n first mem refl l c x y k.0 j.0 c1 h x1 y1 k.1 j.1 e)));
 }

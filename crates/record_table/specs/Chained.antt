@@ -10,7 +10,7 @@ abbrev pub along : ℕ → (ℕ → Record) → ℕ → ℕ
 along zero mem number = number
 along (suc k) mem number = along k mem (mem number).next
 
--- record x is in chain c
+-- some links lead from chain c's first number to x: record x is in the chain
 abbrev pub On : (ℕ → ℕ) → (ℕ → Record) → ℕ → ℕ → Type 0
 On first mem c x = ∥ ((k : ℕ) × (along k mem (first c) ≡ x)) ∥₁
 
@@ -21,6 +21,11 @@ InOne n first mem x = (c : ℕ) × (c ≤ n) × On first mem c x × ((d : ℕ) �
 pub record Chained (n : ℕ) (first : ℕ → ℕ) (mem : ℕ → Record) : Type 0 where
   -- every record is in exactly one chain, the unused one, 0, or that of a context
   pub one_chain : (x : ℕ) → 1 ≤ x → x ≤ 1024 → ∥ InOne n first mem x ∥₁
+  -- every chain ends: its links lead to 0
+  pub ended : (c : ℕ) → c ≤ n → On first mem c 0
+  -- every link is a record's number, or 0
+  pub heads_low : (c : ℕ) → c ≤ n → first c ≤ 1024
+  pub links_low : (x : ℕ) → 1 ≤ x → x ≤ 1024 → (mem x).next ≤ 1024
   -- a record of a context's chain has a context as its target, and operations
   pub in_use : (c x : ℕ) → 1 ≤ c → c ≤ n → 1 ≤ x → On first mem c x → Fit n (mem x)
   -- a pair has at most one record

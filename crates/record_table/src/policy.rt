@@ -13,6 +13,7 @@ use access::numbers::is_within;
 use access::operation_set::OperationSet;
 use access::policy::Policy;
 use access::refusal::Refusal;
+use access::setting::check_setting;
 
 impl RecordTable {
     /// A table with no pair, for the number of contexts from 1 to 256 that is nearest to the wished one.
@@ -25,7 +26,7 @@ impl RecordTable {
         }
     }
 
-    /// Every record is in exactly one chain, and a pair has at most one record: this holds of every table.
+    /// Every record is in exactly one chain, every chain ends, and a pair has at most one record: this holds of every table.
     pub fn chains_stand(&self)
         ensures { TableChained self.now }
     {}
@@ -165,12 +166,7 @@ impl Policy for RecordTable {
     }
 
     fn set(&mut self, subject: u16, target: u16, operations: OperationSet) -> Result<(), Refusal> {
-        if !self.has_both(subject, target) {
-            return Err(Refusal::ContextOutside);
-        }
-        if operations.has_unknown() {
-            return Err(Refusal::UnfitOperations);
-        }
+        check_setting(self.contexts, subject, target, operations)?;
         let found = self.find(subject, target);
         if self.lacks_room(found, operations) {
             return Err(Refusal::PolicyFull);

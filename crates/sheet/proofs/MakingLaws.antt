@@ -22,10 +22,6 @@ use Rattle.sheet.proofs.Undoing.{undo_noted, undoable_noted, undo_written}
 pub refused : (b : Book) (q : Request) (why : Refusal) → Err why ≡ answer (refusal b q) → b ≡ fed b q
 refused b q why told = let r = answer_err (refusal b q) why told in rw r refl
 
--- nor does a setting that the policy refuses
-pub unaltered : (m m' : Meaning) (s t ops : ℕ) (why : Refusal) → Err why ≡ answer (setting_refusal m s t ops) → m' ≡ after_setting m s t ops → m' ≡ m
-unaltered m m' s t ops why told after = after ∙ ap (λ (o : Option Refusal). when_accepted o (with_set m s t ops) m) (answer_err (setting_refusal m s t ops) why told)
-
 -- withdrawing puts the copy back
 pub withdrawn : (m m' : Meaning) (c c' : Option (List Note)) (notes : List Note) (n : ℕ) (gs : Entries Grant) (ps : Entries Property) → c ≡ Some notes → c' ≡ None → m' ≡ undo notes m
     → ◌≡◌ {A = Book} (record { policy = m'; settings = n; grants = gs; properties = ps; change = opened c' m' }) (fed (record { policy = m; settings = n; grants = gs; properties = ps; change = opened c m }) Withdraw)

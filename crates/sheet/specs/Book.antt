@@ -2,12 +2,12 @@
 use Rattle.std.specs.Prelude.{ℕ, ◌+◌, min, Bool, false, not, ◌||◌, List, [], ◌∷◌, is_some, Some, None, Option, ◌==◌, nat_le}
 use Rattle.std.specs.Option.{option_or}
 use Rattle.access.specs.Operations.{unknown}
-use Rattle.access.specs.Contexts.{inside, both_inside}
+use Rattle.access.specs.Contexts.{inside}
 use Rattle.access.specs.Policy.{Matrix, Meaning, with_written}
 use Rattle.access.specs.Refusals.{first_of, when_accepted}
-use Rattle.access.specs.Setting.{no_room, with_set}
+use Rattle.access.specs.Setting.{setting_rungs, no_room, with_set}
 use Rattle.access.specs.declared.refusal.Refusal.{Refusal}
-use Rattle.access.specs.declared.refusal.Refusal.TheVariants.{NumberOutside, StandsAlready, StandsNot, ContextOutside, UnfitOperations, UnfitSet, OpenAlready, NoneOpen, NotesFull, PolicyFull, ShortMemory}
+use Rattle.access.specs.declared.refusal.Refusal.TheVariants.{NumberOutside, StandsAlready, StandsNot, UnfitOperations, UnfitSet, OpenAlready, NoneOpen, ShortMemory}
 use Rattle.entries.specs.Entries.{Entries, put}
 use Rattle.entries.specs.Standing.{entering_refusal, striking_refusal}
 use Rattle.moves.specs.declared.grant.Grant.{Grant}
@@ -41,13 +41,7 @@ notes_full (Some o) = nat_le 128 o.notes
 
 -- the refusal of a call: the first of its list that applies
 abbrev pub refusal : Book → Request → Option Refusal
-refusal b (Set s t ops) =
-    first_of (
-    (not (both_inside b.policy.contexts s t), ContextOutside)
-    ∷ (unknown ops.bits, UnfitOperations)
-    ∷ (notes_full b.change, NotesFull)
-    ∷ (no_room b.policy s t ops.bits, PolicyFull)
-    ∷ [])
+refusal b (Set s t ops) = first_of (setting_rungs b.policy.contexts s t ops.bits (notes_full b.change) (no_room b.policy s t ops.bits))
 refusal b (EnterGrant k g) =
     first_of (
     (not (inside 32 k), NumberOutside)

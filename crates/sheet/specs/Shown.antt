@@ -1,10 +1,7 @@
 -- The book that a sheet shows, and what its calls answer.
-use Rattle.std.specs.Prelude.{ℕ, cond, List, length, Some, None, Ok, Err, Option, Result}
-use Rattle.access.specs.Operations.{unknown}
-use Rattle.access.specs.Contexts.{both_inside}
+use Rattle.std.specs.Prelude.{List, length, Some, None, Ok, Err, Option, Result}
 use Rattle.access.specs.Policy.{Meaning}
 use Rattle.access.specs.declared.refusal.Refusal.{Refusal}
-use Rattle.access.specs.declared.refusal.Refusal.TheVariants.{ContextOutside, UnfitOperations, NotesFull}
 use Rattle.entries.specs.Held.{held}
 use Rattle.sheet.specs.Undo.{undo}
 use Rattle.sheet.specs.Book.{Opened, Book}
@@ -37,7 +34,3 @@ handed (Some why) = Err why
 abbrev pub spent : Change → Option Refusal → Result (Unit {0}) Undecided
 spent change None = Ok tt
 spent change (Some why) = Err (record { why = why; change = change })
-
--- the refusal of a setting while there is no room for one note more
-abbrev pub with_full_notes : Meaning → ℕ → ℕ → ℕ → Refusal
-with_full_notes m s t ops = cond (both_inside m.contexts s t) (cond (unknown ops) UnfitOperations NotesFull) ContextOutside

@@ -3,17 +3,17 @@ ghost use Rattle.std.specs.Prelude.{◌≡◌, true, OnErr};
 ghost use Rattle.access.specs.Refusals.{answer};
 ghost use Rattle.sheet.specs.Undo.{undo, undoable};
 ghost use Rattle.sheet.specs.Book.{notes_full, refusal, fed};
-ghost use Rattle.sheet.specs.Shown.{shown, spent, with_full_notes};
+ghost use Rattle.sheet.specs.Shown.{shown, spent};
 ghost use Rattle.sheet.specs.declared.request.Request.TheVariants.{Set, Withdraw};
 
 use crate::change::{Change, Undecided};
 use crate::note::Note;
 use crate::notes::Notes;
 use crate::sheet::Sheet;
-use access::numbers::is_within;
 use access::operation_set::OperationSet;
 use access::policy::Policy;
 use access::refusal::Refusal;
+use access::setting::check_setting;
 
 /// Puts back every set that was noted, the latest first.
 fn put_back<P: Policy>(policy: &mut P, mut notes: Notes)
@@ -34,20 +34,6 @@ impl<P: Policy> Sheet<P> {
         self.change.as_ref().is_some_and(Notes::are_full)
     }
 
-    /// Why a setting is refused while the open change has no room for one note more.
-    fn full_refusal(&self, subject: u16, target: u16, operations: OperationSet) -> Refusal
-        ensures { result ≡ with_full_notes (shown self.now).policy subject target operations.bits }
-    {
-        let n = self.policy.contexts();
-        if !is_within(n, subject) || !is_within(n, target) {
-            Refusal::ContextOutside
-        } else if operations.has_unknown() {
-            Refusal::UnfitOperations
-        } else {
-            Refusal::NotesFull
-        }
-    }
-
     /// Replaces the written set of a pair, and notes the old one while a change is open.
     pub fn set(
         &mut self,
@@ -59,7 +45,8 @@ impl<P: Policy> Sheet<P> {
         ensures done { shown self.new ≡ fed (shown self.old) (Set subject target operations) }
     {
         if self.is_full() {
-            return Err(self.full_refusal(subject, target, operations));
+            check_setting(self.policy.contexts(), subject, target, operations)?;
+            return Err(Refusal::NotesFull);
         }
         let before = self.policy.written(subject, target);
         self.policy.set(subject, target, operations)?;

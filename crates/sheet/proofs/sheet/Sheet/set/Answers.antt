@@ -2,13 +2,13 @@ use Rattle.std.proofs.Common.{◌≡◌, true, ◌∙◌, ap, sym, subst, rules}
 use Rattle.access.specs.Policy.{Meaning}
 use Rattle.sheet.specs.Undo.{change_undoable}
 use Rattle.sheet.proofs.Fitness.{as_many, after_set}
-use Rattle.sheet.proofs.MakingLaws.{unaltered, undoable_set, noted_set}
+use Rattle.sheet.proofs.MakingLaws.{undoable_set, noted_set}
 use Rattle.sheet.proofs.sheet.Sheet.set.Goals as goal
 
 pub invariant_of-self : goal.invariant_of-self
 invariant_of-self g c =
     let old = c.args.self.now in
-    let same = unaltered (g.P.Policy.meaning old.policy) (g.P.Policy.meaning c.set.new.self) c.args.subject c.args.target c.args.operations.bits c.in_err-set.field-0.0 c.in_err-set.ensures.told c.in_err-set.ensures.done in
+    let same = ap g.P.Policy.meaning c.in_err-set.ensures.kept in
     record {
       undoable = subst (λ (m : Meaning). change_undoable old.change m ≡ true) (sym same) old.undoable;
       fit = as_many _ _ _ (ap (λ x. x.contexts) same) old.fit;
