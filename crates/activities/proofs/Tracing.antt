@@ -6,7 +6,7 @@ use Rattle.verdicts.specs.Runs.{Grants}
 use Rattle.verdicts.specs.Activities.{Move, Chain}
 use Rattle.verdicts.specs.Searches.{Search}
 use Rattle.verdicts.specs.Verdicts.{Pairwise, AtLeast, AsStep}
-use Rattle.verdicts.specs.First.{along, FirstOf}
+use Rattle.verdicts.specs.First.{along_way, FirstOf}
 use Rattle.verdicts.proofs.Agreement.{same_length, shown_realised}
 use Rattle.verdicts.proofs.Exists.{shown_by}
 use Rattle.moves.specs.declared.step.Step.{Step}
@@ -71,13 +71,13 @@ module _ (m : Meaning) (gs : Grants) {kind : Search} {back : Bool} {activities :
         order = refl;
       }
 
-  pub traced_along : along back traced ≡ walked
+  pub traced_along : along_way back traced ≡ walked
   unfolding going
   traced_along = (laws.way.turns going.early going.late).0 ∙ sym walked_parts
 
-  pub traced_back : traced ≡ along back walked
+  pub traced_back : traced ≡ along_way back walked
   unfolding going
-  traced_back = sym (laws.way.turns going.early going.late).1 ∙ ap (along back) (sym walked_parts)
+  traced_back = sym (laws.way.turns going.early going.late).1 ∙ ap (along_way back) (sym walked_parts)
 
   pub counted : length (front ++ turned back rest) ≡ k
   counted = omega (arith, length-append front (turned back rest), length_tab (λ j. move_of kind m.contexts (way j) (way (suc j))) u, turned_length back rest, length_tab late_at (k - u), t.turned.within)

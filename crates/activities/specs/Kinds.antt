@@ -1,7 +1,7 @@
 -- How the moves of an activity stand in the order in which they are made, for every kind of activity alike.
 use Rattle.std.specs.Prelude.{◌≡◌, ℕ, suc, ◌-◌, ◌<◌, ◌≤◌, Bool, cond, ◌⊎◌, ◌↔◌, List, [], ◌∷◌, ◌++◌, reverse}
 use Rattle.verdicts.specs.Activities.{Move, transition, transfer, Chain}
-use Rattle.verdicts.specs.First.{along, leg}
+use Rattle.verdicts.specs.First.{along_way, leg}
 use Rattle.verdicts.specs.Searches.{Search}
 
 -- moves from one context on to another, in phases from p on that do not fall and are before the last
@@ -36,7 +36,7 @@ pub record WayLaws (kind : Search) (back : Bool) : Type 0 where
   pub rising : (q r : ℕ) → q < r → r < kind.phases → tag q < tag r
   pub legs : (q b c : ℕ) → leg back (kind.move q b c) ≡ b ∷ tag q ∷ c ∷ []
   pub turns : {a v b : ℕ} {front rest : List Move} → Early kind 0 a v front → Chain (last_move kind) v b rest
-      → (along back (front ++ turned back rest) ≡ front ++ rest) × (along back (front ++ rest) ≡ front ++ turned back rest)
+      → (along_way back (front ++ turned back rest) ≡ front ++ rest) × (along_way back (front ++ rest) ≡ front ++ turned back rest)
 
 -- the activities of a kind are the ways in which it goes
 pub record KindLaws (kind : Search) (back : Bool) (activities : ℕ → ℕ → List Move → Type 0) : Type 0 where

@@ -16,7 +16,7 @@ use Rattle.verdicts.specs.Activities.{Move, Chain, same, next}
 use Rattle.verdicts.specs.Possible.{makeable}
 use Rattle.verdicts.specs.Searches.{Search}
 use Rattle.verdicts.specs.Verdicts.{Realises, NoneRealised, AtLeast}
-use Rattle.verdicts.specs.First.{along, leg, Lower, FirstOf}
+use Rattle.verdicts.specs.First.{along_way, leg, Lower, FirstOf}
 use Rattle.verdicts.proofs.Moves.{realised}
 use Rattle.verdicts.proofs.Chains.{all_front, all_back}
 use Rattle.search.specs.Problem.{Problem, Nowhere, Least}
@@ -188,8 +188,8 @@ module _ (m : Meaning) (gs : Grants) (l : Sound m) {kind : Search} {back : Bool}
     pub nodes : List ℕ
     pub trail : Trail (plan kind m gs A B) last nodes
     pub ends : (plan kind m gs A B).target last ≡ true
-    pub forth : along back ms ≡ moves_on kind m.contexts nodes
-    pub again : ms ≡ along back (moves_on kind m.contexts nodes)
+    pub forth : along_way back ms ≡ moves_on kind m.contexts nodes
+    pub again : ms ≡ along_way back (moves_on kind m.contexts nodes)
     pub count : length nodes ≡ suc (length ms)
 
   pub trailed : (ms : List Move) → Leads activities (among m.contexts A) B ms → Realises m gs ms → Trailed ms
@@ -206,8 +206,8 @@ module _ (m : Meaning) (gs : Grants) (l : Sound m) {kind : Search} {back : Bool}
         nodes = w.nodes;
         trail = w.trail;
         ends = T_true _ (subst (λ c. T (B c)) (sym (context_node n late.0 h.to w.low w.high)) h.to_in);
-        forth = ap (along back) g.order ∙ t.0 ∙ sym w.moves;
-        again = g.order ∙ sym t.1 ∙ ap (along back) (sym w.moves);
+        forth = ap (along_way back) g.order ∙ t.0 ∙ sym w.moves;
+        again = g.order ∙ sym t.1 ∙ ap (along_way back) (sym w.moves);
         count = omega (arith, moves_count w.trail, ap length w.moves, length-append g.front g.rest, ap length g.order, length-append g.front us, turned_length back g.rest);
       }
 
@@ -271,13 +271,13 @@ module _ (m : Meaning) (gs : Grants) (l : Sound m) {kind : Search} {back : Bool}
     pub first_found : FirstOf m gs (Leads activities (among m.contexts A) B) back (traced m gs laws (line ps last) (at ps last).depth ss t)
     first_found ms h r e =
         let x = trailed ms h r in
-        let forth : along back shown ≡ moves_on kind n (way_back ps last) = traced_along m gs laws (line ps last) k ss t ∙ walked_nodes in
-        let again : shown ≡ along back (moves_on kind n (way_back ps last)) = traced_back m gs laws (line ps last) k ss t ∙ ap (along back) walked_nodes in
+        let forth : along_way back shown ≡ moves_on kind n (way_back ps last) = traced_along m gs laws (line ps last) k ss t ∙ walked_nodes in
+        let again : shown ≡ along_way back (moves_on kind n (way_back ps last)) = traced_back m gs laws (line ps last) k ss t ∙ ap (along_way back) walked_nodes in
         let long : length x.nodes ≡ length (way_back ps last) = omega (arith, x.count, e, counted m gs laws (line ps last) k ss t, back_length ps k last) in
         ⊎_elim
-        (λ z. inl (x.again ∙ ap (λ vs. along back (moves_on kind n vs)) (sym z) ∙ sym again))
+        (λ z. inl (x.again ∙ ap (λ vs. along_way back (moves_on kind n vs)) (sym z) ∙ sym again))
         (λ z. ⊎_elim
-        (λ y. inl (x.again ∙ ap (along back) (y.1 ∙ sym y.0) ∙ sym again))
+        (λ y. inl (x.again ∙ ap (along_way back) (y.1 ∙ sym y.0) ∙ sym again))
         (λ y. inr (subst₂ Lower (ap (flat_map (leg back)) (sym forth)) (ap (flat_map (leg back)) (sym x.forth)) y))
         (parted f.trail x.trail (sym long) z))
         (f.first x.last x.nodes x.ends x.trail long)

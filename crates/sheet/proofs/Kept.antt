@@ -30,3 +30,8 @@ on_err (Err e) f h = f h
 pub is_none : {X : Type 0} (o : Option X) → is_some o ≡ false → o ≡ None
 is_none None e = refl
 is_none (Some x) e = differ e
+
+-- what holds, holds where a call is refused
+pub if_refused : {X Y A : Type 0} (r : Result X Y) → A → OnErr r A
+if_refused (Ok x) a = tt
+if_refused (Err e) a = a

@@ -43,6 +43,7 @@ impl<P: Policy> Sheet<P> {
     ) -> Result<(), Refusal>
         ensures told { result ≡ answer (refusal (shown self.old) (Set subject target operations)) }
         ensures done { shown self.new ≡ fed (shown self.old) (Set subject target operations) }
+        ensures kept { OnErr result (self.new ≡ self.old) }
     {
         if self.is_full() {
             check_setting(self.policy.contexts(), subject, target, operations)?;

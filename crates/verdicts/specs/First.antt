@@ -20,8 +20,8 @@ fetching (transfer g k ∷ ms) = fetching ms ++ transfer g k ∷ []
 fetching (contact s t ∷ ms) = contact s t ∷ fetching ms
 
 -- the moves of an activity along its way
-abbrev pub along : Bool → List Move → List Move
-along back ms = cond back (fetching ms) ms
+abbrev pub along_way : Bool → List Move → List Move
+along_way back ms = cond back (fetching ms) ms
 
 -- a move along the way in numbers: where it starts, 0 for a transition, 1 for a transfer or 2 for a contact, and where it leads
 abbrev pub leg : Bool → Move → List ℕ
@@ -31,7 +31,7 @@ leg back (contact s t) = s ∷ 2 ∷ t ∷ []
 
 -- the way of an activity in numbers
 abbrev pub way : Bool → List Move → List ℕ
-way back ms = flat_map (leg back) (along back ms)
+way back ms = flat_map (leg back) (along_way back ms)
 
 -- where two lists of numbers part first, the one has the lower number
 abbrev pub Lower : List ℕ → List ℕ → Type 0

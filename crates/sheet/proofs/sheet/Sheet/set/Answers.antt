@@ -1,7 +1,8 @@
-use Rattle.std.proofs.Common.{◌≡◌, true, ◌∙◌, ap, sym, subst, rules}
+use Rattle.std.proofs.Common.{◌≡◌, true, ◌∙◌, ap, refl, sym, subst, rules}
 use Rattle.access.specs.Policy.{Meaning}
 use Rattle.sheet.specs.Undo.{change_undoable}
 use Rattle.sheet.proofs.Fitness.{as_many, after_set}
+use Rattle.sheet.proofs.Kept.{same_sheet, if_refused}
 use Rattle.sheet.proofs.MakingLaws.{undoable_set, noted_set}
 use Rattle.sheet.proofs.sheet.Sheet.set.Goals as goal
 
@@ -29,3 +30,6 @@ returns-in-Some-clause-done g c =
     let old = c.args.self.now in
     noted_set (g.P.Policy.meaning old.policy) (g.P.Policy.meaning c.set.new.self) c.args.subject c.args.target c.args.operations c.written-before.result old.change c.in-Some.notes c.add.new.self
     c.in_ok-set.ensures.told c.in_ok-set.ensures.done c.in-Some.is c.written-before.ensures (c.add.ensures (search rules)) old.settings c.saturating_add-self.result _ _ c.if-is_full.ensures c.saturating_add-self.ensures
+
+pub returns-in_err-set-clause-kept : goal.returns-in_err-set-clause-kept
+returns-in_err-set-clause-kept g c = if_refused c.from_residual-in_err-set.result (same_sheet _ c.args.self.now c.in_err-set.ensures.kept refl refl refl refl)
