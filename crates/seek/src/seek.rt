@@ -47,8 +47,8 @@ pub fn seek<'a, A: Activity, P: Policy>(
         return Err(Refusal::ShortMemory);
     }
     let chart: Chart<'_, A, P> = Chart::between(moves, from, to);
-    let found = search(&chart, ticks, places).map_err(|_| Refusal::ShortMemory)?;
-    let Some(last) = found else {
+    // There is memory, by the test above.
+    let Some(last) = search(&chart, ticks, places).unwrap() else {
         return Ok(None);
     };
     let way = Way {
