@@ -13,7 +13,8 @@ use Rattle.verdicts.proofs.Decided.{direct_from}
 use Rattle.access.proofs.ContextLaws.{above_zero}
 use Rattle.properties.specs.declared.property.Template.{Template}
 use Rattle.properties.specs.declared.property.Template.TheVariants.{Integrity, Confidentiality, Domain, Consistency}
-use Rattle.sheet.specs.Book.{start, unfit, unfit_second, refusal}
+use Rattle.properties.specs.Fitness.{unfit, unfit_second}
+use Rattle.sheet.specs.Book.{start, refusal}
 use Rattle.sheet.specs.declared.request.Request.TheVariants.{EnterProperty}
 use Rattle.worked_cases.specs.Entered.{Only, Meets}
 use Rattle.worked_cases.specs.Vectors.{flat, raised, step}
