@@ -45,15 +45,6 @@ module _ (start : Book) (requests : List Request) (before : List Answer) where
       further : (i : ℕ) (xs ys : List Answer) → drop i xs ≡ drop i ys → drop (i + 1) xs ≡ drop (i + 1) ys
       further i xs ys e = sym (drop-drop 1 i xs) ∙ ap (drop 1) e ∙ drop-drop 1 i ys
 
--- withdrawing restores, at any place of the list
-restored : (start : Book) (first between : List Request) → refusal (fed_all start first) Open ≡ None → all_undeciding between ≡ true
-    → (refusal (fed_all start (first ++ (Open ∷ between))) Withdraw ≡ None)
-    × ((s t : ℕ) → (fed_all start (first ++ (Open ∷ (between ++ (Withdraw ∷ []))))).policy.written s t ≡ (fed_all start first).policy.written s t)
-restored start first between accepted undeciding =
-    let opening = fed_all start first in
-    let law = withdrawal_restores opening between accepted undeciding in
-    (rw (fed_append start first (Open ∷ between)) law.0, λ s t. rw (fed_append start first (Open ∷ (between ++ (Withdraw ∷ []))), fed_append (fed opening Open) between (Withdraw ∷ [])) (law.1 s t))
-
 -- all that there is room for are answered
 pub promised : (start : Book) (requests : List Request) (before after : List Answer) (i : ℕ) (book : Book) (held : Bool) → i ≡ min (length requests) (length after) → Going start requests before after i book → held ≡ is_some book.change
     → Promise start requests before after book held
@@ -68,5 +59,5 @@ promised start requests before after i book held all g holds =
       behind = sym left ∙ g.behind ∙ was;
       shows = g.shows ∙ ap (fed_all start) front;
       holds = holds;
-      restored = λ first between rest parted accepted undeciding. restored start first between accepted undeciding;
+      restored = λ first between rest parted accepted undeciding. withdrawal_restores (fed_all start first) between accepted undeciding;
     }

@@ -1,7 +1,7 @@
 -- What the customer is promised of any list of requests, over every policy.
-use Rattle.std.specs.Prelude.{◌≡◌, ℕ, Bool, true, List, [], ◌∷◌, ◌++◌, map, length, take, drop, is_some, None}
+use Rattle.std.specs.Prelude.{◌≡◌, Bool, true, List, ◌∷◌, ◌++◌, map, length, take, drop, is_some, None}
 use Rattle.sheet.specs.Book.{Book, refusal, fed_all}
-use Rattle.sheet.specs.Withdrawal.{all_undeciding}
+use Rattle.sheet.specs.Withdrawal.{all_undeciding, Restores}
 use Rattle.sheet.specs.declared.request.Request.{Request}
 use Rattle.sheet.specs.declared.request.Request.TheVariants.{Open, Withdraw}
 use Rattle.replay.specs.Replies.{reply_of, Replies}
@@ -22,6 +22,4 @@ pub record Promise (start : Book) (requests : List Request) (before after : List
   -- where, at any place of the list, a change is opened, anything is called but adopting and withdrawing, and the change is withdrawn,
   -- the withdrawal is accepted, and every pair has then the written set that it had at the opening
   pub restored : (first between rest : List Request) → served requests after ≡ first ++ (Open ∷ (between ++ (Withdraw ∷ rest)))
-      → refusal (fed_all start first) Open ≡ None → all_undeciding between ≡ true
-      → (refusal (fed_all start (first ++ (Open ∷ between))) Withdraw ≡ None)
-      × ((s t : ℕ) → (fed_all start (first ++ (Open ∷ (between ++ (Withdraw ∷ []))))).policy.written s t ≡ (fed_all start first).policy.written s t)
+      → refusal (fed_all start first) Open ≡ None → all_undeciding between ≡ true → Restores (fed_all start first) between

@@ -43,7 +43,7 @@ module _ (b : Book) (k : ℕ) (names : List (List ℕ)) (ts : List ℕ) (ps ps' 
   room_on p (Broken n) j =
       let parts = none_applies _ _ _ judged.0 in
       let enough : b.policy.contexts ≤ length ss = grind (arith, nat_tests, parts.1) in
-      grind (arith, nat_tests, enough, j.0.2, kept, few)
+      grind (arith, nat_tests, enough, j.0.0.few, kept, few)
 
   room : (o : Option Property) → VerdictOnEntry b o ss ss' v → has_room_for v (length ss') ≡ true
   room None told = absurd told

@@ -1,5 +1,6 @@
 -- What a call does to the book that a sheet shows.
-use Rattle.std.proofs.Common.{◌≡◌, ℕ, ◌+◌, min, true, false, List, ◌∷◌, length, Some, None, Ok, Err, Option, sym, refl, ap, ◌∙◌, add-one}
+use Rattle.std.proofs.Common.{◌≡◌, ℕ, ◌+◌, ◌<◌, cond, ltb, min, true, false, List, ◌∷◌, length, Some, None, Ok, Err, Option, sym, refl, ap, ◌∙◌, add-one}
+use Rattle.std.proofs.lemmas.Bool.{cond-true, lt-ltb}
 use Rattle.access.specs.Policy.{Meaning}
 use Rattle.access.specs.Sound.{Sound}
 use Rattle.access.specs.Refusals.{answer, when_accepted}
@@ -17,6 +18,10 @@ use Rattle.sheet.specs.declared.note.Note.{Note}
 use Rattle.sheet.specs.declared.request.Request.{Request}
 use Rattle.sheet.specs.declared.request.Request.TheVariants.{Set, Withdraw}
 use Rattle.sheet.proofs.Undoing.{undo_noted, undoable_noted, undo_written}
+
+-- where there is room, a note more is noted
+pub one_noted : (x : Note) (xs : List Note) {ys : List Note} → length xs < 128 → ys ≡ cond (ltb (length xs) 128) (x ∷ xs) xs → ys ≡ x ∷ xs
+one_noted x xs room e = e ∙ cond-true (ltb (length xs) 128) (x ∷ xs) xs (lt-ltb (length xs) 128 room)
 
 -- a call that is refused and alters nothing
 pub refused : (b : Book) (q : Request) (why : Refusal) → Err why ≡ answer (refusal b q) → b ≡ fed b q

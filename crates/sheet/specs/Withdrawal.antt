@@ -26,10 +26,12 @@ abbrev pub all_undeciding : List Request → Bool
 all_undeciding [] = true
 all_undeciding (q ∷ qs) = undeciding q && all_undeciding qs
 
--- a change is opened, any settings and other calls are made, refused ones among them, and it is withdrawn:
--- the withdrawal is accepted, and every written set is as it stood at the opening
-abbrev pub WithdrawalRestores : Type 0
-WithdrawalRestores =
-    (b : Book) (qs : List Request) → refusal b Open ≡ None → all_undeciding qs ≡ true
-    → (refusal (fed_all (fed b Open) qs) Withdraw ≡ None)
+-- after a change is opened and these calls are made, a withdrawal is accepted, and every written set is then as it stood at the opening
+abbrev pub Restores : Book → List Request → Type 0
+Restores b qs =
+    (refusal (fed_all (fed b Open) qs) Withdraw ≡ None)
     × ((s t : ℕ) → (fed (fed_all (fed b Open) qs) Withdraw).policy.written s t ≡ b.policy.written s t)
+
+-- so it is wherever a change can be opened, whatever settings and other calls that decide nothing are made, refused ones among them
+abbrev pub WithdrawalRestores : Type 0
+WithdrawalRestores = (b : Book) (qs : List Request) → refusal b Open ≡ None → all_undeciding qs ≡ true → Restores b qs

@@ -1,5 +1,5 @@
 //! The notes of an open change.
-ghost use Rattle.std.specs.Prelude.{◌≡◌, ◌<◌, [], ◌∷◌, length, nat_le};
+ghost use Rattle.std.specs.Prelude.{◌≡◌, cond, [], ◌∷◌, length, nat_le, nat_lt};
 ghost use Rattle.sheet.specs.Noted.{Took};
 
 use crate::note::Note;
@@ -53,7 +53,7 @@ impl Notes {
 
     /// Adds a note where there is room.
     pub(crate) fn add(&mut self, note: Note)
-        ensures { length self.old < 128 → self.new ≡ note ∷ self.old }
+        ensures { self.new ≡ cond (nat_lt (length self.old) 128) (note ∷ self.old) self.old }
     {
         if self.count < MOST_NOTES {
             self.list[self.count] = note;

@@ -13,7 +13,8 @@ use Rattle.verdicts.proofs.Decided.{direct_from}
 use Rattle.access.proofs.ContextLaws.{above_zero}
 use Rattle.properties.specs.declared.property.Template.{Template}
 use Rattle.properties.specs.declared.property.Template.TheVariants.{Integrity, Confidentiality, Domain, Consistency}
-use Rattle.sheet.specs.Book.{start, unfit, unfit_second, refusal}
+use Rattle.properties.specs.Fitness.{unfit, unfit_second}
+use Rattle.sheet.specs.Book.{start, refusal}
 use Rattle.sheet.specs.declared.request.Request.TheVariants.{EnterProperty}
 use Rattle.worked_cases.specs.Entered.{Only, Meets}
 use Rattle.worked_cases.specs.Vectors.{flat, raised, step}
@@ -45,7 +46,7 @@ level_inside = sound_inside level level_sound
 
 reaches : Broken level maintenance keypad_off_opening (step keypad Append log 0 ∷ step maint Read log 0 ∷ step maint Write opening 1 ∷ [])
 reaches =
-    broken level maintenance (transfer keypad log ∷ transfer log maint ∷ transfer maint opening ∷ [])
+    broken level maintenance keypad_off_opening (transfer keypad log ∷ transfer log maint ∷ transfer maint opening ∷ [])
     (record { from = keypad; to = opening; from_in = tt; to_in = tt; holds = record { via = keypad; transitions = []; transfers = _; becomes = same; goes = next keypad (next log (next maint same)); order = refl } })
     tt
     (integrity_bound level maintenance level_inside (keypad ∷ []) (opening ∷ []) 1 3 (λ a. labels (9 ∷ 9 ∷ 0 ∷ []) (9 ∷ 4 ∷ 0 ∷ 2 ∷ 3 ∷ 1 ∷ [])) tt)
@@ -55,21 +56,21 @@ never_leaks = guaranteed level maintenance opening_from_keypad (confidentiality_
 
 enters : Broken level maintenance clock_and_opening (step maint Write opening 1 ∷ [])
 enters =
-    broken level maintenance (contact maint opening ∷ [])
+    broken level maintenance clock_and_opening (contact maint opening ∷ [])
     (record { subject = maint; target = opening; across = tt; only = refl })
     tt
     (domain_bound level maintenance _)
 
 tells : Broken level maintenance maint_on_keypad (step keypad Append log 0 ∷ step maint Read log 0 ∷ [])
 tells =
-    broken level maintenance (transfer keypad log ∷ transfer log maint ∷ [])
+    broken level maintenance maint_on_keypad (transfer keypad log ∷ transfer log maint ∷ [])
     (record { from = maint; to = keypad; from_in = tt; to_in = tt; holds = (next keypad (next log same), direct_from level maint keypad) })
     tt
     (consistency_bound level maintenance level_inside (maint ∷ []) (keypad ∷ []) 1 2 (λ a. labels (9 ∷ 9 ∷ 2 ∷ 0 ∷ 9 ∷ 1 ∷ []) []) tt)
 
 learns : Broken level maintenance keypad_from_maint (step keypad Append log 0 ∷ step maint Read log 0 ∷ [])
 learns =
-    broken level maintenance (transfer keypad log ∷ transfer log maint ∷ [])
+    broken level maintenance keypad_from_maint (transfer keypad log ∷ transfer log maint ∷ [])
     (record { from = maint; to = keypad; from_in = tt; to_in = tt; holds = record { via = maint; transitions = []; transfers = _; becomes = same; goes = next keypad (next log same); order = refl } })
     tt
     (confidentiality_bound level maintenance level_inside (maint ∷ []) (keypad ∷ []) 1 2 (λ a. labels (9 ∷ 9 ∷ 9 ∷ 0 ∷ []) (9 ∷ 9 ∷ 2 ∷ 0 ∷ 9 ∷ 1 ∷ [])) tt)
@@ -84,7 +85,7 @@ barred =
 
 three : Broken detour [] one_off_four (step 1 Become 3 0 ∷ step 3 Become 2 0 ∷ step 2 Become 4 0 ∷ [])
 three =
-    broken detour [] (transition 1 3 ∷ transition 3 2 ∷ transition 2 4 ∷ [])
+    broken detour [] one_off_four (transition 1 3 ∷ transition 3 2 ∷ transition 2 4 ∷ [])
     (record { from = 1; to = 4; from_in = tt; to_in = tt; holds = record { via = 4; transitions = _; transfers = []; becomes = next 1 (next 3 (next 2 same)); goes = same; order = refl } })
     tt
     (integrity_bound detour [] (sound_inside detour detour_is_sound) (1 ∷ []) (4 ∷ []) 1 3 (λ a. labels (9 ∷ 0 ∷ 2 ∷ 1 ∷ 3 ∷ []) (9 ∷ 0 ∷ 1 ∷ [])) tt)

@@ -13,7 +13,7 @@ use Rattle.verdicts.proofs.Reduction.{reduction}
 use Rattle.verdicts.proofs.Moves.{does_has, made}
 use Rattle.verdicts.proofs.Domains.{domain_shortest}
 use Rattle.verdicts.proofs.Decided.{given_test, given_found, given_from}
-use Rattle.verdicts.proofs.Exists.{broken_by}
+use Rattle.verdicts.proofs.Exists.{shown_by}
 
 module _ (m : Meaning) (gs : Grants) where
   abbrev lowest_test : ℕ → ℕ → (ℕ → Bool) → Interaction → Bool
@@ -96,8 +96,8 @@ module _ (m : Meaning) (gs : Grants) where
   domain_bound A ms f r = omega (arith, domain_shortest m gs A ms f r)
 
   -- a forbidden activity whose steps pass the test, and than which none is shorter
-  pub broken : {p : Property} (vs : List Move) {ss : List Step} → Forbids m p vs → T (steps_test vs ss) → ((ms : List Move) → Forbids m p ms → Realises m gs ms → length ss ≤ 1 * length ms) → Broken m gs p ss
-  broken vs {ss} f t short = broken_by m gs f (steps_shown vs ss t) (λ ms g r. let h = short ms g r in omega arith)
+  pub broken : (p : Property) (vs : List Move) {ss : List Step} → Forbids m p vs → T (steps_test vs ss) → ((ms : List Move) → Forbids m p ms → Realises m gs ms → length ss ≤ 1 * length ms) → Broken m gs p ss
+  broken p vs {ss} f t short = shown_by m gs {Sought = Forbids m p} f (steps_shown vs ss t) (λ ms g r. let h = short ms g r in omega arith)
 
   -- no activity has a length that exceeds a multiple of itself by 0
   pub guaranteed : (p : Property) → ((ms : List Move) → Forbids m p ms → Realises m gs ms → 1 ≤ 0 * length ms) → Guaranteed m gs p
