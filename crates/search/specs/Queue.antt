@@ -62,7 +62,7 @@ pub record Fits (p : Problem) (ts : List ℕ) (ps : List Place) : Type 0 where
   pub ticks : p.nodes ≤ length ts
   pub places : p.nodes ≤ length ps
 
--- each ticked node has a place, there are as many places as ticks, each place is sound, and depths do not fall
+-- the ticked nodes are those that have a place, there are as many places as ticks, each place is sound, and depths do not fall
 pub record Queue (p : Problem) (ts : List ℕ) (ps : List Place) (used : ℕ) : Type 0 where
   pub small : p.nodes < 65536
   pub fits : Fits p ts ps
