@@ -1,11 +1,9 @@
 -- Requests answered in turn.
-use Rattle.std.proofs.Common.{◌≡◌, ℕ, ◌+◌, ◌<◌, min, Bool, true, List, [], ◌∷◌, ◌++◌, map, length, take, drop, set, get_or, is_some, None, refl, sym, ap, ◌∙◌, subst, arith, length-set}
+use Rattle.std.proofs.Common.{◌≡◌, ℕ, ◌+◌, ◌<◌, min, Bool, List, [], ◌∷◌, ◌++◌, map, length, take, drop, set, get_or, is_some, refl, sym, ap, ◌∙◌, subst, arith, length-set}
 use Rattle.std.proofs.lemmas.List.{take_more, take_more_set, drop-set-lt, take_min, drop_min, drop-drop, map-append}
-use Rattle.sheet.specs.Book.{Book, refusal, fed, fed_all}
-use Rattle.sheet.specs.Withdrawal.{all_undeciding}
+use Rattle.sheet.specs.Book.{Book, fed, fed_all}
 use Rattle.sheet.proofs.WithdrawalLaw.{withdrawal_restores}
 use Rattle.sheet.specs.declared.request.Request.{Request}
-use Rattle.sheet.specs.declared.request.Request.TheVariants.{Open, Withdraw}
 use Rattle.replay.specs.Replies.{Reply, reply_of, Right, Replies, none, next}
 use Rattle.replay.specs.Promise.{served, Promise}
 use Rattle.replay.specs.declared.answer.Answer.{Answer}

@@ -10,7 +10,7 @@ use Rattle.judge.specs.Judged.{property_of}
 use Rattle.sheet.specs.Book.{Book, refusal, fed}
 use Rattle.sheet.specs.Judging.{standing_grants}
 use Rattle.sheet.specs.declared.request.Request.{Request}
-use Rattle.sheet.specs.declared.request.Request.TheVariants.{Set, EnterGrant, StrikeGrant, EnterProperty, StrikeProperty, Open, Adopt, Withdraw, Judge, AskSettings, AskContexts, AskCapacity, AskWritten, AskPermitted}
+use Rattle.sheet.specs.declared.request.Request.TheVariants.{Judge, AskSettings, AskContexts, AskCapacity, AskWritten, AskPermitted}
 use Rattle.replay.specs.declared.answer.Answer.{Answer}
 use Rattle.replay.specs.declared.answer.Answer.TheVariants.{Accepted, Refused, Guaranteed, Broken, Number, Operations}
 
@@ -37,32 +37,22 @@ reply_of (Operations set) = operations set.bits
 abbrev pub Shows : Book → Property → Reply → Type 0
 Shows b p guaranteed = Holds b.policy (standing_grants b) (property_of p)
 Shows b p (broken steps) = BrokenBy b.policy (standing_grants b) (property_of p) steps
-Shows b p accepted = ⊥
-Shows b p (refused x) = ⊥
-Shows b p (number x) = ⊥
-Shows b p (operations x) = ⊥
+Shows b p _ = ⊥
 
 -- the reply is the verdict on the property that stands, and it is guaranteed exactly where the property is
 abbrev pub Verdict : Book → Option Property → Reply → Type 0
 Verdict b None r = ⊥
 Verdict b (Some p) r = Shows b p r × ((r ≡ guaranteed) ↔ Holds b.policy (standing_grants b) (property_of p))
 
--- what a request is replied that is accepted
+-- what a request is replied that is accepted: a judging by the verdict, a question by its answer, any other by `accepted`
 abbrev pub Tells : Book → Request → Reply → Type 0
-Tells b (Set s t ops) r = r ≡ accepted
-Tells b (EnterGrant k g) r = r ≡ accepted
-Tells b (StrikeGrant k) r = r ≡ accepted
-Tells b (EnterProperty k p) r = r ≡ accepted
-Tells b (StrikeProperty k) r = r ≡ accepted
-Tells b Open r = r ≡ accepted
-Tells b Adopt r = r ≡ accepted
-Tells b Withdraw r = r ≡ accepted
 Tells b (Judge k ticks places steps) r = Verdict b (b.properties k) r
 Tells b AskSettings r = r ≡ number b.settings
 Tells b AskContexts r = r ≡ number b.policy.contexts
 Tells b AskCapacity r = r ≡ number b.policy.capacity
 Tells b (AskWritten s t) r = r ≡ operations (b.policy.written s t)
 Tells b (AskPermitted s t) r = r ≡ operations (b.policy.permitted s t)
+Tells b _ r = r ≡ accepted
 
 -- the reply to a request that is refused, or accepted
 abbrev pub RightWhere : Option Refusal → Book → Request → Reply → Type 0

@@ -15,7 +15,7 @@ use Rattle.seek.specs.Sought.{short}
 use Rattle.properties.specs.Fitness.{unfit, property_refusal}
 use Rattle.properties.specs.declared.property.Property.{Property}
 use Rattle.sheet.specs.declared.request.Request.{Request}
-use Rattle.sheet.specs.declared.request.Request.TheVariants.{Set, EnterGrant, StrikeGrant, EnterProperty, StrikeProperty, Open, Adopt, Withdraw, Judge, AskSettings, AskContexts, AskCapacity, AskWritten, AskPermitted}
+use Rattle.sheet.specs.declared.request.Request.TheVariants.{Set, EnterGrant, StrikeGrant, EnterProperty, StrikeProperty, Open, Adopt, Withdraw, Judge}
 
 -- an open change: the written sets as they stood at its opening, and how many settings it notes
 pub record Opened : Type 0 where
@@ -39,7 +39,7 @@ abbrev pub notes_full : Option Opened → Bool
 notes_full None = false
 notes_full (Some o) = nat_le 128 o.notes
 
--- the refusal of a call: the first of its list that applies
+-- the refusal of a call: the first of its list that applies; a question meets none
 abbrev pub refusal : Book → Request → Option Refusal
 refusal b (Set s t ops) = first_of (setting_rungs b.policy.contexts s t ops.bits (notes_full b.change) (no_room b.policy s t ops.bits))
 refusal b (EnterGrant k g) =
@@ -61,11 +61,7 @@ refusal b (Judge k ticks places steps) =
     ∷ (not (is_some (b.properties k)), StandsNot)
     ∷ (short 2 b.policy.contexts ticks places steps, ShortMemory)
     ∷ [])
-refusal b AskSettings = None
-refusal b AskContexts = None
-refusal b AskCapacity = None
-refusal b (AskWritten s t) = None
-refusal b (AskPermitted s t) = None
+refusal b _ = None
 
 -- an open change notes one setting more
 abbrev pub one_more : Option Opened → Option Opened
@@ -89,7 +85,7 @@ with_properties b f = record { policy = b.policy; settings = b.settings; grants 
 abbrev pub with_change : Book → Meaning → Option Opened → Book
 with_change b m c = record { policy = m; settings = b.settings; grants = b.grants; properties = b.properties; change = c }
 
--- the book after a call that is accepted
+-- the book after a call that is accepted: judging and questions alter nothing
 abbrev pub accepted : Book → Request → Book
 accepted b (Set s t ops) = record { policy = with_set b.policy s t ops.bits; settings = min (b.settings + 1) 4294967295; grants = b.grants; properties = b.properties; change = one_more b.change }
 accepted b (EnterGrant k g) = with_grants b (put b.grants k (Some g))
@@ -99,12 +95,7 @@ accepted b (StrikeProperty k) = with_properties b (put b.properties k None)
 accepted b Open = with_change b b.policy (Some (record { copy = b.policy.written; notes = 0 }))
 accepted b Adopt = with_change b b.policy None
 accepted b Withdraw = with_change b (put_back b.change b.policy) None
-accepted b (Judge k ticks places steps) = b
-accepted b AskSettings = b
-accepted b AskContexts = b
-accepted b AskCapacity = b
-accepted b (AskWritten s t) = b
-accepted b (AskPermitted s t) = b
+accepted b _ = b
 
 -- the book after a call: a refused one alters nothing
 abbrev pub fed : Book → Request → Book

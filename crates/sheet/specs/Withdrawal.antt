@@ -2,24 +2,13 @@
 use Rattle.std.specs.Prelude.{◌≡◌, ℕ, Bool, true, false, ◌&&◌, List, [], ◌∷◌, None}
 use Rattle.sheet.specs.Book.{Book, refusal, fed, fed_all}
 use Rattle.sheet.specs.declared.request.Request.{Request}
-use Rattle.sheet.specs.declared.request.Request.TheVariants.{Set, EnterGrant, StrikeGrant, EnterProperty, StrikeProperty, Open, Adopt, Withdraw, Judge, AskSettings, AskContexts, AskCapacity, AskWritten, AskPermitted}
+use Rattle.sheet.specs.declared.request.Request.TheVariants.{Open, Adopt, Withdraw}
 
 -- a call that neither adopts nor withdraws
 abbrev pub undeciding : Request → Bool
-undeciding (Set s t ops) = true
-undeciding (EnterGrant k g) = true
-undeciding (StrikeGrant k) = true
-undeciding (EnterProperty k p) = true
-undeciding (StrikeProperty k) = true
-undeciding Open = true
 undeciding Adopt = false
 undeciding Withdraw = false
-undeciding (Judge k ticks places steps) = true
-undeciding AskSettings = true
-undeciding AskContexts = true
-undeciding AskCapacity = true
-undeciding (AskWritten s t) = true
-undeciding (AskPermitted s t) = true
+undeciding _ = true
 
 -- none of the calls adopts or withdraws
 abbrev pub all_undeciding : List Request → Bool
