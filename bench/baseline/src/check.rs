@@ -1,5 +1,5 @@
-//! Checking another program's report: the same verdicts and numbers of steps as here, and steps that are a forbidden activity.
-//! Which of several shortest activities is shown is free.
+//! Checking another program's report: the same verdicts and numbers of steps as here, steps that are a forbidden activity, and of
+//! several shortest ones the same as here.
 
 use crate::judge::{marked, Judge, Kind, Step, Verdict};
 use crate::operations::by_name;
@@ -26,6 +26,9 @@ fn check_sheet(sheet: &Sheet, report: &[u8]) -> Result<(), String> {
             let steps = shown.map(|line| step(sheet, line)).collect::<Result<Vec<_>, _>>()?;
             if steps.len() < own.len() || !forbidden(&judge, property, &steps) {
                 return Err(format!("the steps of property {number} are no forbidden activity, shown in working order"));
+            }
+            if steps != own {
+                return Err(format!("the steps of property {number} are not the first of the shortest activities"));
             }
         }
     }

@@ -1,4 +1,6 @@
-//! Judging: breadth-first search over the contexts, with the possible operations of each pair worked out once.
+//! Judging: breadth-first search over the contexts, with the possible operations of each pair worked out once. Of several shortest
+//! activities the first is found: that with the lowest start, and then along the way a transition before a transfer, and the lower
+//! context.
 
 use crate::operations::{lowest, Operations, BECOME, NONE, READ_LIKE, TRANSITION, WRITE_LIKE};
 use crate::sheet::{Marks, Property, Sheet, Template};

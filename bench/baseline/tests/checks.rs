@@ -41,8 +41,7 @@ fn changes(line: &str) -> Vec<String> {
     let mut changed = vec![String::new(), line.repeat(2), line.replace('\n', " \n"), line.replace('\n', "")];
     match words[..] {
         ["", subject, operation, target, origin] => {
-            // A transition and a transfer between the same contexts may both be right.
-            let others = NAMES.iter().filter(|&&name| name != operation && name != "become" && operation != "become");
+            let others = NAMES.iter().filter(|&&name| name != operation);
             changed.extend(others.map(|other| format!(" {subject} {other} {target} {origin}\n")));
             let origin: usize = origin.parse().unwrap();
             changed.push(format!(" {subject} {operation} {target} {}\n", origin + 1));

@@ -2,7 +2,7 @@
 //! search, and each step is asked whether some legal run has it.
 
 use baseline::generate;
-use baseline::judge::{Judge, Verdict};
+use baseline::judge::{Judge, Step, Verdict};
 use baseline::reader::read;
 use baseline::sheet::{Property, Sheet, Template};
 
@@ -38,45 +38,73 @@ fn transfer(sheet: &Sheet, g: usize, k: usize) -> bool {
         || READ_LIKE.iter().any(|operation| can(sheet, k, g, operation))
 }
 
-/// The fewest moves of a chain from a context to a wished one, of at most so many moves. `forward` says which way transfers go.
-fn fewest(sheet: &Sheet, at: usize, wished: &[bool], transitions: bool, forward: bool, most: usize) -> Option<usize> {
+/// A move along a chain: whether it is a transfer, and the context that it leads to. So transitions come before transfers, and of
+/// each the lower contexts first.
+type Turn = (bool, usize);
+
+/// Of two chains the shorter, and of two as short the one that comes first.
+fn first(chains: impl Iterator<Item = Vec<Turn>>) -> Option<Vec<Turn>> {
+    chains.min_by_key(|turns| (turns.len(), turns.clone()))
+}
+
+/// The first of the shortest chains from a context to a wished one, of at most so many moves. `forward` says which way transfers go.
+fn shortest(sheet: &Sheet, at: usize, wished: &[bool], transitions: bool, forward: bool, most: usize) -> Option<Vec<Turn>> {
     if wished[at] {
-        return Some(0);
+        return Some(Vec::new());
     }
     if most == 0 {
         return None;
     }
-    let next = |later| {
+    let onward = |later: usize, transfers: bool| {
+        let rest = shortest(sheet, later, wished, transitions && !transfers, forward, most - 1)?;
+        Some([(transfers, later)].into_iter().chain(rest).collect::<Vec<_>>())
+    };
+    first((0..sheet.n()).flat_map(|later| {
         let becomes = transitions && can(sheet, at, later, "become");
         let gives = if forward { transfer(sheet, at, later) } else { transfer(sheet, later, at) };
-        let rest = |transitions| fewest(sheet, later, wished, transitions, forward, most - 1);
-        let after_transition = if becomes { rest(true) } else { None };
-        let after_transfer = if gives { rest(false) } else { None };
-        after_transition.into_iter().chain(after_transfer).min()
-    };
-    (0..sheet.n()).filter_map(next).min().map(|moves| moves + 1)
+        [becomes.then(|| onward(later, false)), gives.then(|| onward(later, true))].into_iter().flatten().flatten()
+    }))
 }
 
-/// The steps of a shortest activity that a property forbids.
-fn least(sheet: &Sheet, property: &Property) -> Option<usize> {
+/// The steps of a chain in working order.
+fn steps(judge: &Judge, start: usize, turns: &[Turn], forward: bool) -> Vec<Step> {
+    let starts = [start].into_iter().chain(turns.iter().map(|turn| turn.1));
+    let (transfers, transitions): (Vec<_>, Vec<_>) = starts.zip(turns).partition(|(_, turn)| turn.0);
+    let becoming = transitions.into_iter().map(|(c, turn)| judge.transition(c, turn.1));
+    let mut passing: Vec<_> = transfers
+        .into_iter()
+        .map(|(c, turn)| if forward { judge.transfer(c, turn.1) } else { judge.transfer(turn.1, c) })
+        .collect();
+    if !forward {
+        passing.reverse();
+    }
+    becoming.chain(passing).map(|step| step.expect("a move of a chain can be made")).collect()
+}
+
+/// The steps of the first of the shortest activities that a property forbids: of several that are as short that from the lowest
+/// start, and of these the first chain.
+fn least(sheet: &Sheet, judge: &Judge, property: &Property) -> Option<Vec<Step>> {
     let n = sheet.n();
     let Property { template, first, second } = property;
-    let sources = (0..n).filter(|&a| first[a]);
+    let chained = |transitions: bool, forward: bool, wished: &dyn Fn(usize) -> Vec<bool>| {
+        let chains =
+            (0..n).filter(|&a| first[a]).filter_map(|a| Some((a, shortest(sheet, a, &wished(a), transitions, forward, n)?)));
+        let (start, turns) = chains.min_by_key(|(_, turns)| turns.len())?;
+        Some(steps(judge, start, &turns, forward))
+    };
     match template {
-        Template::Integrity => sources.filter_map(|a| fewest(sheet, a, second, true, true, n)).min(),
-        Template::Confidentiality => sources.filter_map(|a| fewest(sheet, a, second, true, false, n)).min(),
+        Template::Integrity => chained(true, true, &|_| second.clone()),
+        Template::Confidentiality => chained(true, false, &|_| second.clone()),
         Template::Domain => {
             let mut pairs = (0..n).flat_map(|s| (0..n).map(move |t| (s, t))).filter(|&(s, t)| first[s] != first[t]);
-            pairs.any(|(s, t)| baseline::operations::NAMES.iter().any(|operation| can(sheet, s, t, operation))).then_some(1)
+            let done =
+                |&(s, t): &(usize, usize)| baseline::operations::NAMES.iter().any(|operation| can(sheet, s, t, operation));
+            pairs.find(done).map(|(s, t)| vec![judge.interaction(s, t).unwrap()])
         }
-        Template::Consistency => sources
-            .filter_map(|a| {
-                let reads =
-                    |b| READ_LIKE.iter().any(|operation| written(sheet, a, b, operation) && lets(sheet, a, b, operation));
-                let unread: Vec<bool> = (0..n).map(|b| second[b] && !reads(b)).collect();
-                fewest(sheet, a, &unread, false, false, n)
-            })
-            .min(),
+        Template::Consistency => chained(false, false, &|a| {
+            let reads = |b| READ_LIKE.iter().any(|operation| written(sheet, a, b, operation) && lets(sheet, a, b, operation));
+            (0..n).map(|b| second[b] && !reads(b)).collect()
+        }),
     }
 }
 
@@ -92,10 +120,10 @@ fn judging_is_as_defined() {
         for (number, property) in &sheet.properties {
             let steps = match judge.judge(property) {
                 Verdict::Guaranteed => None,
-                Verdict::Broken(steps) => Some(steps.len()),
+                Verdict::Broken(steps) => Some(steps),
             };
-            assert_eq!(steps, least(&sheet, property), "seed {seed}, property {number}");
-            counts[property.template as usize][steps.unwrap_or(0)] += 1;
+            assert_eq!(steps, least(&sheet, &judge, property), "seed {seed}, property {number}");
+            counts[property.template as usize][steps.map_or(0, |steps| steps.len())] += 1;
         }
     }
     println!("by template, then by number of steps: {counts:?}");
