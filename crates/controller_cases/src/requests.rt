@@ -112,7 +112,7 @@ fn print_answer(rt: &impl Print, answer: &Answer) -> io::Result<()> {
         Answer::Accepted => println!(rt; " accepted"),
         Answer::Refused(why) => println!(rt; " refused, number {}: {why}", u8::from(*why)),
         Answer::Guaranteed => println!(rt; " guaranteed"),
-        Answer::Broken { count, .. } => println!(rt; " broken, in {count} steps"),
+        Answer::Broken(shown) => println!(rt; " broken, in {} steps", shown.all().len()),
         Answer::Number(number) => println!(rt; " {number}"),
         Answer::Operations(set) => print_operations(rt, *set),
     }

@@ -57,5 +57,5 @@ promised start requests before after i book held all g holds =
       behind = sym left ∙ g.behind ∙ was;
       shows = g.shows ∙ ap (fed_all start) front;
       holds = holds;
-      restored = λ first between rest parted accepted undeciding. withdrawal_restores (fed_all start first) between accepted undeciding;
+      restored = withdrawal_restores;
     }

@@ -1,9 +1,8 @@
 -- What the customer is promised of any list of requests, over every policy.
-use Rattle.std.specs.Prelude.{◌≡◌, Bool, true, List, ◌∷◌, ◌++◌, map, length, take, drop, is_some, None}
-use Rattle.sheet.specs.Book.{Book, refusal, fed_all}
-use Rattle.sheet.specs.Withdrawal.{all_undeciding, Restores}
+use Rattle.std.specs.Prelude.{◌≡◌, Bool, List, map, length, take, drop, is_some}
+use Rattle.sheet.specs.Book.{Book, fed_all}
+use Rattle.sheet.specs.Withdrawal.{WithdrawalRestores}
 use Rattle.sheet.specs.declared.request.Request.{Request}
-use Rattle.sheet.specs.declared.request.Request.TheVariants.{Open, Withdraw}
 use Rattle.replay.specs.Replies.{reply_of, Replies}
 use Rattle.replay.specs.declared.answer.Answer.{Answer}
 
@@ -19,7 +18,6 @@ pub record Promise (start : Book) (requests : List Request) (before after : List
   pub behind : drop (length requests) after ≡ drop (length requests) before
   pub shows : end ≡ fed_all start (served requests after)
   pub holds : held ≡ is_some end.change
-  -- where, at any place of the list, a change is opened, anything is called but adopting and withdrawing, and the change is withdrawn,
-  -- the withdrawal is accepted, and every pair has then the written set that it had at the opening
-  pub restored : (first between rest : List Request) → served requests after ≡ first ++ (Open ∷ (between ++ (Withdraw ∷ rest)))
-      → refusal (fed_all start first) Open ≡ None → all_undeciding between ≡ true → Restores (fed_all start first) between
+  -- of any book, and so at any place of the list: after a change is opened and anything is called but adopting and withdrawing, a
+  -- withdrawal is accepted, and every pair has then the written set that it had at the opening
+  pub restored : WithdrawalRestores

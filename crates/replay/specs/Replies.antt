@@ -28,7 +28,7 @@ abbrev pub reply_of : Answer → Reply
 reply_of Accepted = accepted
 reply_of (Refused why) = refused (refusal_number why)
 reply_of Guaranteed = guaranteed
-reply_of (Broken steps count) = broken (map stepped (take count steps))
+reply_of (Broken shown) = broken (map stepped (take shown.count shown.steps))
 reply_of (Number x) = number x
 reply_of (Operations set) = operations set.bits
 

@@ -3,9 +3,9 @@ ghost use Rattle.std.specs.Prelude.{◌≡◌};
 ghost use Rattle.sheet.specs.Shown.{shown};
 ghost use Rattle.sheet.specs.declared.request.Request.TheVariants.{Judge};
 ghost use Rattle.replay.specs.Replies.{reply_of, Right};
-ghost use Rattle.replay.specs.Calls.{judgingly};
+ghost use Rattle.replay.specs.Calls.{FitsSteps, judgingly};
 
-use crate::answer::{Answer, MOST_STEPS};
+use crate::answer::{Answer, MOST_STEPS, ShownSteps};
 use access::operation::Operation;
 use access::policy::Policy;
 use access::refusal::Refusal;
@@ -19,11 +19,12 @@ const MOST_NODES: usize = 512;
 
 /// What a judging is answered that wrote these steps.
 fn shown_by(verdict: Result<Verdict, Refusal>, steps: [Step; MOST_STEPS]) -> Answer
-    ensures { result ≡ judgingly verdict steps }
+    requires { FitsSteps verdict }
+    ensures { reply_of result ≡ judgingly verdict steps }
 {
     match verdict {
         Ok(Verdict::Guaranteed) => Answer::Guaranteed,
-        Ok(Verdict::Broken { steps: count }) => Answer::Broken { steps, count },
+        Ok(Verdict::Broken { steps: count }) => Answer::Broken(ShownSteps { steps, count }),
         Err(why) => Answer::Refused(why),
     }
 }

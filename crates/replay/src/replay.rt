@@ -11,7 +11,7 @@ use access::policy::Policy;
 use sheet::request::Request;
 use sheet::sheet::Sheet;
 
-/// Lays out a sheet with a policy, serves as many requests on it as there is room for answers, each by the sheet's own call, and hands back
+/// Lays out a sheet with a policy, serves as many requests on it as there is room for answers, and hands back
 /// the sheet with the change that is still held.
 pub fn replay<P: Policy>(policy: P, requests: &[Request], answers: &mut [Answer]) -> Session<P>
     ensures { Promise (start (P.Policy.meaning policy)) requests.now answers.old answers.new (shown result.sheet) (is_some result.held) }

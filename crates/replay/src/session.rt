@@ -16,8 +16,8 @@ use sheet::sheet::Sheet;
 
 /// A sheet, and the open change that is held beside it: one is held while one is open, and only then.
 pub struct Session<P: Policy> {
-    pub sheet: Sheet<P>,
-    pub held: Option<Change>,
+    pub(crate) sheet: Sheet<P>,
+    pub(crate) held: Option<Change>,
     ghost holds: { is_some held ≡ is_some (shown sheet).change },
 }
 
@@ -72,7 +72,7 @@ impl<P: Policy> Session<P> {
         }
     }
 
-    /// Serves one request by the sheet's own call.
+    /// Serves one request.
     pub(crate) fn serve(&mut self, request: Request) -> Answer
         ensures answer { Right (shown self.old.sheet) request (reply_of result) }
         ensures done { shown self.new.sheet ≡ fed (shown self.old.sheet) request }

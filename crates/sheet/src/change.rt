@@ -9,7 +9,8 @@ use crate::sheet::Sheet;
 use access::policy::Policy;
 use access::refusal::Refusal;
 
-/// A change that is open: it has to be adopted or withdrawn, so it cannot be let go.
+/// A change that is open: it has to be adopted or withdrawn, so it cannot be let go. It decides the change that is open on the sheet to
+/// which it is handed.
 pub struct Change {
     pub(crate) opened: (),
 }

@@ -1,5 +1,5 @@
 -- Why a text has one report: of each property one verdict is right, and one list of steps shows it.
-use Rattle.std.proofs.Common.{◌≡◌, ℕ, ◌<◌, ◌≤◌, Bool, true, false, List, [], ◌∷◌, ◌++◌, map, take, is_some, Some, None, Ok, Err, Option, sym, refl, ap, ap₂, ◌∙◌, subst, ⊎_elim, arith}
+use Rattle.std.proofs.Common.{◌≡◌, ℕ, ◌<◌, ◌≤◌, Bool, true, false, List, [], ◌∷◌, ◌++◌, map, take, is_some, Some, None, Ok, Err, Option, Result, sym, refl, ap, ap₂, ◌∙◌, subst, ⊎_elim, arith}
 use Rattle.std.proofs.lemmas.Bool.{cases_lt}
 use Rattle.access.specs.Operations.{number_of}
 use Rattle.access.specs.declared.operation.Operation.{Operation}
@@ -16,7 +16,10 @@ use Rattle.sheet.specs.Book.{Book}
 use Rattle.sheet.specs.Judging.{standing_grants, VerdictOn, VerdictOnEntry}
 use Rattle.report.specs.Parts.{broken, said}
 use Rattle.report.specs.Reporting.{NoneAbove, IsNext}
-use Rattle.text_report.specs.Output.{IsPart, ReportAbove, over, next}
+use Rattle.policy_text.specs.Reading.{Reading}
+use Rattle.policy_text.specs.Texts.{text_read}
+use Rattle.policy_text.specs.declared.fault.Fault.{Fault}
+use Rattle.text_report.specs.Output.{IsPart, ReportAbove, over, next, Prints}
 use Rattle.text_report.specs.OneReport.{OneReport}
 
 -- ---- a step is told by what it means
@@ -97,6 +100,9 @@ one_above b names after xs ys (next {bytes = us} {rest = vs} j i p r) (next {byt
     let e : k ≡ j = omega (arith, one_next b after j k i i', one_next b after k j i' i) in
     ap₂ ◌++◌ (one_part b names j us ws p (subst (λ n. IsPart b names n ws) e p')) (one_above b names j vs zs r (subst (λ n. ReportAbove b names n zs) e r'))
 
+one_print : (read : Result Reading Fault) (xs ys : List ℕ) → Prints read xs → Prints read ys → xs ≡ ys
+one_print (Err fault) xs ys x y = x ∙ sym y
+one_print (Ok p) xs ys x y = one_above _ _ 0 xs ys x y
+
 pub one_report : OneReport
-one_report (Err fault) xs ys x y = x ∙ sym y
-one_report (Ok p) xs ys x y = one_above _ _ 0 xs ys x y
+one_report text xs ys x y = one_print (text_read text) xs ys x y

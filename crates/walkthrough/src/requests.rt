@@ -149,9 +149,9 @@ fn print_answer(rt: &impl Print, answer: &Answer) -> io::Result<()> {
         Answer::Accepted => println!(rt; " accepted"),
         Answer::Refused(why) => println!(rt; " refused, number {}: {why}", u8::from(*why)),
         Answer::Guaranteed => println!(rt; " guaranteed"),
-        Answer::Broken { steps, count } => {
-            println!(rt; " broken, in {count} steps")?;
-            for step in steps.iter().take(*count) {
+        Answer::Broken(shown) => {
+            println!(rt; " broken, in {} steps", shown.all().len())?;
+            for step in shown.all() {
                 print_step(rt, *step)?;
             }
             Ok(())
