@@ -1,9 +1,14 @@
 //! A tour of the library: lays out the sample controller, prints who may do what to whom, before and after changes, seeks chains of
-//! steps by which one context reaches another, and serves every kind of request on a sheet.
+//! steps by which one context reaches another, and serves every kind of request on a sheet. Then the worked cases are run and printed.
 
 #![tactic(auto)]
 
+mod cases;
+mod full_table;
+mod reports;
 mod requests;
+mod served;
+mod texts;
 
 use access::context_set::ContextSet;
 use access::numbers::index_in;
@@ -21,6 +26,7 @@ use moves::grant::Grant;
 use moves::moves::Moves;
 use moves::regime::Regime;
 use moves::step::Step;
+use policy_text::pile::Pile;
 use record_table::table::RecordTable;
 use search::Place;
 use seek::seek::seek;
@@ -47,9 +53,6 @@ const NO_STEP: Step = Step {
     operation: Operation::Read,
     origin: 0,
 };
-
-/// Levels over owners over a record table, as every controller has them.
-type Pile = LevelLayer<OwnerLayer<RecordTable>>;
 
 /// The sample controller: the clock updates the opening times, the keypad appends to the log, maintenance reads the log.
 /// Appending is constrained to one owner.
@@ -208,5 +211,7 @@ fn tour(rt: &impl Print, alloc: Global) -> io::Result<()> {
 }
 
 fn main(rt: HostRuntime) -> io::Result<()> {
-    tour(&rt, rt.alloc())
+    let alloc = rt.alloc();
+    tour(&rt, alloc)?;
+    cases::show(&rt, alloc)
 }

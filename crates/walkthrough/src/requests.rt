@@ -1,18 +1,15 @@
 //! Requests of every kind to a sheet over the sample controller, refused ones among them, and what they are answered.
-use crate::{CLOCK, KEYPAD, LOG, MAINT, OPENING, Pile, print_step};
+use crate::served::{self, Named, set};
+use crate::{CLOCK, KEYPAD, LOG, MAINT, OPENING};
 use access::context_set::ContextSet;
 use access::operation::Operation;
 use access::operation_set::OperationSet;
 use moves::grant::Grant;
+use policy_text::pile::Pile;
 use properties::property::{Property, Template};
-use replay::answer::Answer;
-use replay::replay::replay;
 use sheet::request::Request;
 use std::alloc::Global;
 use std::io;
-
-/// A request, and how it is called in print.
-type Named = (&'static str, Request);
 
 fn only(context: u16) -> ContextSet {
     ContextSet::none().with(context)
@@ -43,14 +40,6 @@ fn judge(number: u16, ticks: usize) -> Request {
         ticks,
         places: 10,
         steps: 5,
-    }
-}
-
-fn set(subject: u16, target: u16, operations: OperationSet) -> Request {
-    Request::Set {
-        subject,
-        target,
-        operations,
     }
 }
 
@@ -132,56 +121,11 @@ fn asking() -> [Named; 4] {
     ]
 }
 
-fn print_operations(rt: &impl Print, set: OperationSet) -> io::Result<()> {
-    if set.is_empty() {
-        return println!(rt; " nothing");
-    }
-    for operation in (0..12).filter_map(|number| Operation::try_from(number).ok()) {
-        if set.has(operation) {
-            print!(rt; " {operation}")?;
-        }
-    }
-    println!(rt; "")
-}
-
-fn print_answer(rt: &impl Print, answer: &Answer) -> io::Result<()> {
-    match answer {
-        Answer::Accepted => println!(rt; " accepted"),
-        Answer::Refused(why) => println!(rt; " refused, number {}: {why}", u8::from(*why)),
-        Answer::Guaranteed => println!(rt; " guaranteed"),
-        Answer::Broken(shown) => {
-            println!(rt; " broken, in {} steps", shown.all().len())?;
-            for step in shown.all() {
-                print_step(rt, *step)?;
-            }
-            Ok(())
-        }
-        Answer::Number(number) => println!(rt; " {number}"),
-        Answer::Operations(set) => print_operations(rt, *set),
-    }
-}
-
-fn print_answers(rt: &impl Print, named: &[Named], answers: &[Answer]) -> io::Result<()> {
-    for (named, answer) in named.iter().zip(answers) {
-        print!(rt; "  {}:", named.0)?;
-        print_answer(rt, answer)?;
-    }
-    Ok(())
-}
-
-/// Serves all these requests on a sheet over the controller, and prints what each was answered.
+/// Serves all these requests on a sheet over the controller, and prints what each is answered.
 pub(crate) fn show(rt: &impl Print, alloc: Global, controller: Pile) -> io::Result<()> {
     let mut named = Vec::new(alloc);
     named.extend_from_slice(&entering())?;
     named.extend_from_slice(&changing())?;
     named.extend_from_slice(&asking())?;
-    let mut requests = Vec::new(alloc);
-    for (_, request) in named.iter() {
-        requests.push(*request)?;
-    }
-    let mut answers = vec![in alloc; Answer::Accepted; requests.len()]?;
-    let session = replay(controller, &requests, &mut answers);
-    let printed = print_answers(rt, &named, &answers);
-    let _ = session.close();
-    printed
+    served::show(rt, alloc, controller, Vec::new(alloc), &named)
 }

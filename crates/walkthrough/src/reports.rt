@@ -1,6 +1,5 @@
 //! A policy text is read, and what is said of its properties is printed.
-use access::operation::Operation;
-use moves::step::Step;
+use crate::NO_STEP;
 use names::names::Names;
 use policy_text::controller::Controller;
 use policy_text::pile::Pile;
@@ -14,14 +13,6 @@ use std::io;
 
 /// How many properties a sheet has at most.
 const MOST_PROPERTIES: u16 = 64;
-
-/// What the memory that a judging is lent holds before.
-const NO_STEP: Step = Step {
-    subject: 0,
-    target: 0,
-    operation: Operation::Read,
-    origin: 0,
-};
 
 fn join(alloc: Global, parts: &[&str]) -> Result<String, AllocError> {
     let mut text = String::new(alloc);

@@ -1,4 +1,5 @@
-//! Requests are served on a sheet over the policy that every controller has, and what they are answered is printed.
+//! Requests to a sheet over a full table, and of a context against itself.
+use crate::served::{self, Named, set};
 use access::context_set::ContextSet;
 use access::operation::Operation;
 use access::operation_set::OperationSet;
@@ -8,14 +9,9 @@ use layers::owner::OwnerLayer;
 use policy_text::pile::Pile;
 use properties::property::{Property, Template};
 use record_table::table::RecordTable;
-use replay::answer::Answer;
-use replay::replay::replay;
 use sheet::request::Request;
 use std::alloc::{AllocError, Global};
 use std::io;
-
-/// A request, and how it is called in print.
-type Named = (&'static str, Request);
 
 /// All pairs of as many contexts fill a table, which has room for 1,024.
 const FILLING: u16 = 32;
@@ -25,14 +21,6 @@ fn controller() -> Pile {
     let table = RecordTable::new(FILLING + 1);
     let owned = OwnerLayer::new(table, Labels::zero(), OperationSet::none());
     LevelLayer::new(owned, Labels::zero())
-}
-
-fn set(subject: u16, target: u16, operations: OperationSet) -> Request {
-    Request::Set {
-        subject,
-        target,
-        operations,
-    }
 }
 
 fn written(subject: u16, target: u16) -> Request {
@@ -95,52 +83,12 @@ pub(crate) fn withdrawn() -> [Named; 9] {
     ]
 }
 
-fn print_operations(rt: &impl Print, set: OperationSet) -> io::Result<()> {
-    if set.is_empty() {
-        return println!(rt; " nothing");
-    }
-    for operation in (0..12).filter_map(|number| Operation::try_from(number).ok()) {
-        if set.has(operation) {
-            print!(rt; " {operation}")?;
-        }
-    }
-    println!(rt; "")
-}
-
-fn print_answer(rt: &impl Print, answer: &Answer) -> io::Result<()> {
-    match answer {
-        Answer::Accepted => println!(rt; " accepted"),
-        Answer::Refused(why) => println!(rt; " refused, number {}: {why}", u8::from(*why)),
-        Answer::Guaranteed => println!(rt; " guaranteed"),
-        Answer::Broken(shown) => println!(rt; " broken, in {} steps", shown.all().len()),
-        Answer::Number(number) => println!(rt; " {number}"),
-        Answer::Operations(set) => print_operations(rt, *set),
-    }
-}
-
-/// Prints the answers to requests that have a name.
-fn print_named(rt: &impl Print, named: &[Named], answers: &[Answer]) -> io::Result<()> {
-    for (named, answer) in named.iter().zip(answers) {
-        print!(rt; "  {}:", named.0)?;
-        print_answer(rt, answer)?;
-    }
-    Ok(())
-}
-
 /// Serves requests and then those that have a name, and prints what the latter are answered.
 pub(crate) fn show(
     rt: &impl Print,
     alloc: Global,
-    mut requests: Vec<Request>,
+    requests: Vec<Request>,
     named: &[Named],
 ) -> io::Result<()> {
-    let unnamed = requests.len();
-    for (_, request) in named {
-        requests.push(*request)?;
-    }
-    let mut answers = vec![in alloc; Answer::Accepted; requests.len()]?;
-    let session = replay(controller(), &requests, &mut answers);
-    let printed = print_named(rt, named, answers.get(unnamed..).unwrap_or(&[]));
-    let _ = session.close();
-    printed
+    served::show(rt, alloc, controller(), requests, named)
 }
