@@ -5,7 +5,8 @@ ghost use Rattle.access.specs.Refusals.{refusal_number, words_of};
 use std::error::Error;
 use std::fmt;
 
-/// Why a call, or a policy text, is refused. Of several that apply, the first in this list is answered.
+/// Why a call, or a policy text, is refused. Of several that apply to a call, the first in this list is answered; the faults of a text
+/// have an order of their own, that of its bytes.
 #[derive(Clone, Copy, Debug, PartialEq, Eq)]
 pub enum Refusal {
     /// A grant or property number is outside its range.

@@ -2,9 +2,9 @@
 
 #![tactic(auto)]
 
+use report::job::judge_text;
 use std::rt::Files;
 use std::{fs, io};
-use text_report::job::judge_text;
 
 /// Judges one example.
 fn show(rt: &(impl Print + Files + AllocGlobal), name: &str) -> io::Result<()> {

@@ -3,10 +3,10 @@
 #![tactic(auto)]
 
 use policy_text::read::MOST_BYTES;
+use report::job::judge_text;
 use std::io;
 use std::io::Read;
 use std::process::ExitCode;
-use text_report::job::judge_text;
 
 fn main(rt: HostRuntime) -> io::Result<ExitCode> {
     // One byte more than a text may have tells that it is too long.

@@ -7,9 +7,9 @@ use Rattle.access.specs.declared.refusal.Refusal.TheVariants.{ContextCount}
 use Rattle.sheet.specs.Book.{Book, refusal, fed, fed_all, start}
 use Rattle.sheet.specs.Shown.{shown}
 use Rattle.sheet.specs.declared.request.Request.{Request}
-use Rattle.word_values.specs.declared.flaw.Flaw.{Flaw}
-use Rattle.text_calls.specs.Calls.{then}
-use Rattle.text_calls.specs.Called.{flaw_of, Answers}
+use Rattle.words.specs.declared.flaw.Flaw.{Flaw}
+use Rattle.policy_text.specs.Calls.{then}
+use Rattle.policy_text.specs.Called.{flaw_of, Answers}
 use Rattle.policy_text.specs.Reading.{Reading, meaning_of, book_of, has_call, no_context}
 use Rattle.policy_text.specs.Lines.{unless_refused, with_call, called}
 use Rattle.policy_text.specs.Shown.{reading, Holds, Opened, Follows}

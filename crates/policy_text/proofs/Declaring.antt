@@ -2,9 +2,9 @@
 use Rattle.std.proofs.Common.{◌≡◌, ℕ, ◌+◌, List, [], ◌∷◌, ◌++◌, length, Ok, Err, arith}
 use Rattle.std.proofs.lemmas.Grind.{common_steps}
 use Rattle.words.specs.Words.{WordAt}
-use Rattle.word_values.specs.Numbers.{label_in}
-use Rattle.word_values.specs.declared.flaw.Flaw.{Flaw}
-use Rattle.text_calls.specs.Calls.{then}
+use Rattle.words.specs.Numbers.{label_in}
+use Rattle.words.specs.declared.flaw.Flaw.{Flaw}
+use Rattle.policy_text.specs.Calls.{then}
 use Rattle.policy_text.specs.Reading.{Reading}
 use Rattle.policy_text.specs.Lines.{with_label, new_name_in, with_context, declared}
 

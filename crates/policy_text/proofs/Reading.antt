@@ -5,7 +5,7 @@ use Rattle.std.proofs.lemmas.Bool.Decides.{nat_tests}
 use Rattle.access.specs.Refusals.{first_of}
 use Rattle.access.specs.declared.refusal.Refusal.TheVariants.{UnfitLine, ContextCount}
 use Rattle.words.specs.Parts.{parts}
-use Rattle.word_values.specs.declared.flaw.Flaw.{Flaw}
+use Rattle.words.specs.declared.flaw.Flaw.{Flaw}
 use Rattle.policy_text.specs.Reading.{Reading, nothing, no_context}
 use Rattle.policy_text.specs.Lines.{unless_refused, line_read}
 use Rattle.policy_text.specs.Texts.{on_line, ended, numbered, lines_read, text_read}

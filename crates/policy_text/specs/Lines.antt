@@ -5,13 +5,13 @@ use Rattle.access.specs.declared.refusal.Refusal.TheVariants.{UnfitLine, UnfitNa
 use Rattle.sheet.specs.Book.{refusal}
 use Rattle.sheet.specs.declared.request.Request.{Request}
 use Rattle.words.specs.Words.{WordAt, words_of}
-use Rattle.lines.specs.Lines.{Said, context, constrain, vector, grant, property, line_of}
-use Rattle.word_values.specs.Flaws.{of_line, at_word}
-use Rattle.word_values.specs.Numbers.{label_in}
-use Rattle.word_values.specs.Operations.{operations_in}
-use Rattle.word_values.specs.declared.flaw.Flaw.{Flaw}
-use Rattle.context_words.specs.Contexts.{name_in, is_known}
-use Rattle.text_calls.specs.Calls.{then, setting_call, grant_call, property_call}
+use Rattle.words.specs.Lines.{Said, context, constrain, vector, grant, property, line_of}
+use Rattle.words.specs.Flaws.{of_line, at_word}
+use Rattle.words.specs.Numbers.{label_in}
+use Rattle.words.specs.Operations.{operations_in}
+use Rattle.words.specs.declared.flaw.Flaw.{Flaw}
+use Rattle.words.specs.Contexts.{name_in, is_known}
+use Rattle.policy_text.specs.Calls.{then, setting_call, grant_call, property_call}
 use Rattle.policy_text.specs.Reading.{Reading, book_of, misplaced}
 
 -- a refusal is the line's flaw; without one something comes of the line

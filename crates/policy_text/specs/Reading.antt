@@ -8,7 +8,7 @@ use Rattle.record_table.specs.TableMeaning.{empty_table}
 use Rattle.layers.specs.Layers.{with_levels, with_owners}
 use Rattle.sheet.specs.Book.{Book, start, fed_all}
 use Rattle.sheet.specs.declared.request.Request.{Request}
-use Rattle.lines.specs.Lines.{Said, context, constrain, vector, grant, property}
+use Rattle.words.specs.Lines.{Said, context, constrain, vector, grant, property}
 
 -- the names of the contexts from 1 on, their levels and owners, the operations that stay with one owner, and the calls of the sheet, in order
 pub record Reading : Type 0 where

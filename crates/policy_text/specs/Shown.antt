@@ -3,7 +3,7 @@ use Rattle.std.specs.Prelude.{◌≡◌, List, Ok, Err, Result, IsOkAnd, T}
 use Rattle.layers.specs.Labels.{label_of}
 use Rattle.sheet.specs.Shown.{shown}
 use Rattle.sheet.specs.declared.request.Request.{Request}
-use Rattle.word_values.specs.declared.flaw.Flaw.{Flaw}
+use Rattle.words.specs.declared.flaw.Flaw.{Flaw}
 use Rattle.policy_text.specs.Reading.{Reading, book_of, has_call}
 use Rattle.policy_text.specs.declared.head.Head.{Head}
 use Rattle.policy_text.specs.declared.controller.Controller.{Controller}

@@ -3,7 +3,7 @@ use Rattle.std.specs.Prelude.{ℕ, ◌+◌, not, cond, List, [], ◌∷◌, leng
 use Rattle.access.specs.Refusals.{first_of}
 use Rattle.access.specs.declared.refusal.Refusal.TheVariants.{LongText, UnfitLine, ContextCount}
 use Rattle.words.specs.Parts.{parts}
-use Rattle.word_values.specs.declared.flaw.Flaw.{Flaw}
+use Rattle.words.specs.declared.flaw.Flaw.{Flaw}
 use Rattle.policy_text.specs.Reading.{Reading, nothing, no_context}
 use Rattle.policy_text.specs.Lines.{unless_refused, line_read}
 use Rattle.policy_text.specs.declared.fault.Fault.{Fault}

@@ -1,7 +1,7 @@
 //! A controller as a policy text describes it.
 use crate::pile::Pile;
-use names::names::Names;
 use sheet::sheet::Sheet;
+use words::names::Names;
 
 /// The names of a controller's contexts, and a sheet with its policy, grants and properties.
 #[derive(Drop)]

@@ -6,7 +6,7 @@ ghost use Rattle.policy_text.specs.Texts.{on_line};
 use access::refusal::Refusal;
 use std::error::Error;
 use std::fmt;
-use word_values::flaw::Flaw;
+use words::flaw::Flaw;
 
 /// Why and where a policy text is refused. Lines and columns count from 1.
 #[derive(Clone, Copy, Debug, PartialEq, Eq)]
@@ -28,7 +28,7 @@ impl Fault {
         }
     }
 
-    /// The layer that finds the fault: 1 for lines, 2 for words, 3 for the calls of the sheet.
+    /// The stage of reading that finds the fault, which its line calls a layer: 1 for lines, 2 for words, 3 for the calls of the sheet.
     pub fn layer(self) -> u8
         ensures { result ≡ layer_of self.refusal }
     {

@@ -4,23 +4,23 @@ ghost use Rattle.words.specs.Left.{seen, left};
 ghost use Rattle.sheet.specs.Book.{start};
 ghost use Rattle.sheet.specs.Shown.{shown};
 ghost use Rattle.sheet.specs.declared.request.Request.{Request};
-ghost use Rattle.text_calls.specs.Calls.{then};
+ghost use Rattle.policy_text.specs.Calls.{then};
 ghost use Rattle.policy_text.specs.Reading.{nothing, meaning_of};
 ghost use Rattle.policy_text.specs.Lines.{new_name_in, declared, constrained};
 ghost use Rattle.policy_text.specs.Shown.{reading, after};
 
 use crate::pile::Pile;
 use access::operation_set::OperationSet;
-use context_words::context::name;
 use layers::labels::Labels;
 use layers::level::LevelLayer;
 use layers::owner::OwnerLayer;
-use names::names::Names;
 use record_table::table::RecordTable;
 use sheet::sheet::Sheet;
-use word_values::flaw::Flaw;
-use word_values::number::label;
-use word_values::operation::operations;
+use words::context::name;
+use words::flaw::Flaw;
+use words::names::Names;
+use words::number::label;
+use words::operation::operations;
 use words::word::{Word, Words};
 
 /// What `context` and `constrain` lines say.

@@ -1,20 +1,20 @@
 //! Reads the lines of a policy text one by one.
 ghost use Rattle.std.specs.Prelude.{◌≡◌, ◌<◌, ◌≤◌, length, false};
 ghost use Rattle.words.specs.Left.{seen, left};
-ghost use Rattle.lines.specs.Said.{said};
+ghost use Rattle.words.specs.Said.{said};
 ghost use Rattle.policy_text.specs.Reading.{Reading, nothing, no_context, misplaced};
 ghost use Rattle.policy_text.specs.Lines.{followed, line_read};
 ghost use Rattle.policy_text.specs.Shown.{Holds, Opened, Follows, Reads};
 ghost use Rattle.policy_text.specs.Texts.{ended};
 
+use crate::call::{add, enter_grant, enter_property};
 use crate::controller::Controller;
 use crate::head::Head;
 use crate::pile::Pile;
 use access::refusal::Refusal;
-use lines::line::Line;
 use sheet::sheet::Sheet;
-use text_calls::call::{add, enter_grant, enter_property};
-use word_values::flaw::Flaw;
+use words::flaw::Flaw;
+use words::line::Line;
 
 /// How many bytes a line has at most.
 const MOST_BYTES: usize = 1024;

@@ -68,6 +68,6 @@ pub data Replies : Book → List Request → List Reply → Type 0 where
   none : {b : Book} → Replies b [] []
   next : {b : Book} {q : Request} {r : Reply} {qs : List Request} {rs : List Reply} → Right b q r → Replies (fed b q) qs rs → Replies b (q ∷ qs) (r ∷ rs)
 
--- what requests are replied depends on the book and on them alone: whoever serves them replies the same
+-- what requests are replied depends on the book and on them alone: whoever serves them by the book replies the same
 abbrev pub SameReplies : Type 0
 SameReplies = (b : Book) (qs : List Request) (rs ts : List Reply) → Replies b qs rs → Replies b qs ts → rs ≡ ts

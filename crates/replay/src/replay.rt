@@ -26,7 +26,7 @@ pub fn replay<P: Policy>(policy: P, requests: &[Request], answers: &mut [Answer]
     session
 }
 
-/// Whoever serves requests replies the same.
+/// Whoever serves requests by the book replies the same.
 pub fn same_replies_stand()
     ensures { SameReplies }
 {}

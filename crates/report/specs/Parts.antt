@@ -7,7 +7,7 @@ use Rattle.access.specs.declared.refusal.Refusal.TheVariants.{ShortMemory}
 use Rattle.moves.specs.declared.step.Step.{Step}
 use Rattle.judge.specs.declared.verdict.Verdict.{Verdict}
 use Rattle.judge.specs.declared.verdict.Verdict.TheVariants.{Guaranteed, Broken}
-use Rattle.names.specs.Numbering.{name_of_number}
+use Rattle.words.specs.Numbering.{name_of_number}
 
 -- a space and a word
 abbrev pub spaced : List ℕ → List ℕ

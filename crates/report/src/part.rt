@@ -8,7 +8,7 @@ use access::refusal::Refusal;
 use judge::verdict::Verdict;
 use lent::List;
 use moves::step::Step;
-use names::names::Names;
+use words::names::Names;
 
 /// How many bytes report memory has at least.
 pub const REPORT_MEMORY: usize = 16_384;

@@ -8,9 +8,9 @@ use crate::part::{REPORT_MEMORY, write_part};
 use access::policy::Policy;
 use access::refusal::Refusal;
 use moves::step::Step;
-use names::names::Names;
 use search::Place;
 use sheet::judging::Judging;
+use words::names::Names;
 
 /// How many properties a sheet has at most.
 const MOST_PROPERTIES: u16 = 64;

@@ -5,8 +5,6 @@ use access::operation_set::OperationSet;
 use access::refusal::Refusal;
 use moves::grant::Grant;
 use moves::step::Step;
-use names::name::Name;
-use names::names::Names;
 use properties::property::{Property, Template};
 use record_table::table::RecordTable;
 use report::reporting::{next_property, report_property};
@@ -14,6 +12,8 @@ use search::Place;
 use sheet::judging::Judging;
 use sheet::sheet::Sheet;
 use std::test::Fail;
+use words::name::Name;
+use words::names::Names;
 
 const KEYPAD: u16 = 2;
 

@@ -1,4 +1,4 @@
--- The two verdicts exclude one another, and the number of steps is one.
+-- The two verdicts exclude one another, and the number of steps is the same.
 use Rattle.std.proofs.Common.{◌≡◌, ◌≤◌, List, map, length, refl, inl, inr, ⊎_elim, arith}
 use Rattle.access.specs.Policy.{Meaning, Interaction}
 use Rattle.verdicts.specs.Runs.{Grants}

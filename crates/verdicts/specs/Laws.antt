@@ -31,7 +31,7 @@ pub record VerdictLaws : Type 0 where
   pub exhaustive : (m : Meaning) (gs : Grants) → Sound m → (p : Property) → OfContexts m.contexts p → Guaranteed m gs p ⊎ ((ss : List Step) × Broken m gs p ss)
   -- and never both
   pub exclusive : (m : Meaning) (gs : Grants) (p : Property) (ss : List Step) → Broken m gs p ss → Guaranteed m gs p → ⊥
-  -- the number of steps is one
+  -- the number of steps is the same
   pub number : (m : Meaning) (gs : Grants) (p : Property) (ss rr : List Step) → Broken m gs p ss → Broken m gs p rr → length ss ≡ length rr
   -- there are no more steps than contexts
   pub few : (m : Meaning) (gs : Grants) → Sound m → (p : Property) (ss : List Step) → Broken m gs p ss → length ss ≤ m.contexts

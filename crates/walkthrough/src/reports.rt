@@ -1,6 +1,5 @@
 //! A policy text is read, and what is said of its properties is printed.
 use crate::NO_STEP;
-use names::names::Names;
 use policy_text::controller::Controller;
 use policy_text::pile::Pile;
 use policy_text::read::read;
@@ -10,6 +9,7 @@ use search::Place;
 use sheet::judging::Judging;
 use std::alloc::{AllocError, Global};
 use std::io;
+use words::names::Names;
 
 /// How many properties a sheet has at most.
 const MOST_PROPERTIES: u16 = 64;

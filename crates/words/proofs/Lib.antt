@@ -1,1 +1,3 @@
 pub mod FirstPart
+pub mod Padding
+pub mod Worth

@@ -1,3 +1,13 @@
 pub mod Parts
 pub mod Words
 pub mod Left
+pub mod Shape
+pub mod Kept
+pub mod Numbering
+pub mod Lines
+pub mod Said
+pub mod Flaws
+pub mod Numbers
+pub mod Operations
+pub mod Templates
+pub mod Contexts

@@ -1,6 +1,6 @@
 use Rattle.std.proofs.Common.{option_map, refl}
 use Rattle.words.specs.Left.{seen, left}
-use Rattle.text_calls.specs.Calls.{setting_call, grant_call, property_call}
+use Rattle.policy_text.specs.Calls.{setting_call, grant_call, property_call}
 use Rattle.policy_text.proofs.Calling.{followed_call, some_context}
 use Rattle.policy_text.proofs.reader.Reader.follow.Goals as goal
 

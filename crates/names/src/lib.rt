@@ -1,6 +1,0 @@
-//! The names of contexts.
-
-#![tactic(auto)]
-
-pub mod name;
-pub mod names;

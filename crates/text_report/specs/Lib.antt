@@ -1,3 +1,0 @@
-pub mod Output
-pub mod Lent
-pub mod OneReport

@@ -1,5 +1,0 @@
-//! From a policy text to its report.
-
-#![tactic(auto)]
-
-pub mod job;

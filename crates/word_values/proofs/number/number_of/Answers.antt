@@ -1,6 +1,0 @@
-use Rattle.std.proofs.Common.{sym}
-use Rattle.word_values.proofs.Worth.{worth_too_much}
-use Rattle.word_values.proofs.number.number_of.Goals as goal
-
-pub returns-then-value-gt999 : goal.returns-then-value-gt999
-returns-then-value-gt999 c = sym (worth_too_much _ c.loop-byte.value _ c.loop-byte-test.true c.loop-byte.invariant.worth (rw c.from.ensures at c.if-value-gt999.true))

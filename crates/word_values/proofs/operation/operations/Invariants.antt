@@ -1,7 +1,0 @@
-use Rattle.std.proofs.Common.{◌≡◌}
-use Rattle.words.specs.Left.{left}
-use Rattle.word_values.specs.Operations.{operations_onto}
-use Rattle.word_values.proofs.operation.operations.Given as goal
-
-abbrev pub invariant-loop-word : goal.invariant-loop-word
-invariant-loop-word l = operations_onto l.set.bits (left l.word-iterator) ≡ operations_onto 0 (left l.fn.words)

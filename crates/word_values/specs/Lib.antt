@@ -1,4 +1,0 @@
-pub mod Flaws
-pub mod Numbers
-pub mod Operations
-pub mod Templates
