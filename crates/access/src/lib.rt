@@ -3,9 +3,11 @@
 #![tactic(auto)]
 
 pub mod context_set;
+pub mod fitness;
 pub mod numbers;
 pub mod operation;
 pub mod operation_set;
 pub mod policy;
+pub mod property;
 pub mod refusal;
 pub mod setting;

@@ -20,10 +20,10 @@ use Rattle.verdicts.proofs.Reduction.{reduction}
 use Rattle.verdicts.proofs.Moves.{makeable_done, done_makeable, realised}
 use Rattle.verdicts.proofs.Domains.{domain_closed, domain_shortest}
 use Rattle.verdicts.proofs.Exists.{shown_by}
-use Rattle.moves.specs.declared.step.Step.{Step}
-use Rattle.moves.specs.Moved.{ShownAs}
-use Rattle.moves.specs.Contextual.{IsSetOf}
-use Rattle.moves.proofs.Selected.{makeable_shown}
+use Rattle.judge.specs.declared.step.Step.{Step}
+use Rattle.judge.specs.Moved.{ShownAs}
+use Rattle.judge.specs.Contextual.{IsSetOf}
+use Rattle.judge.proofs.Selected.{makeable_shown}
 use Rattle.judge.specs.Crossings.{Across, NoneAcross, AcrossFrom}
 use Rattle.judge.specs.Judged.{Tells}
 use Rattle.judge.specs.declared.verdict.Verdict.TheVariants.{Broken}

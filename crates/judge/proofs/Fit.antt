@@ -9,11 +9,11 @@ use Rattle.access.specs.declared.refusal.Refusal.{Refusal}
 use Rattle.access.specs.declared.refusal.Refusal.TheVariants.{UnfitSet, SharedContext, ShortMemory}
 use Rattle.access.proofs.ContextLaws.{none_above}
 use Rattle.verdicts.specs.Laws.{AllInside, OfContexts}
-use Rattle.seek.specs.Sought.{short}
-use Rattle.properties.specs.Fitness.{unfit, unfit_second, property_refusal}
-use Rattle.properties.specs.declared.property.Property.{Property}
-use Rattle.properties.specs.declared.property.Template.{Template}
-use Rattle.properties.specs.declared.property.Template.TheVariants.{Integrity, Confidentiality, Domain, Consistency}
+use Rattle.judge.specs.Sought.{short}
+use Rattle.access.specs.Fitness.{unfit, unfit_second, property_refusal}
+use Rattle.access.specs.declared.property.Property.{Property}
+use Rattle.access.specs.declared.property.Template.{Template}
+use Rattle.access.specs.declared.property.Template.TheVariants.{Integrity, Confidentiality, Domain, Consistency}
 use Rattle.judge.specs.Judged.{forbidding, property_of, judging_refusal}
 
 -- the first of two refusals does not apply

@@ -6,7 +6,7 @@ use Rattle.access.specs.Contexts.{inside, member, some_to, empty}
 use Rattle.access.specs.declared.context_set.ContextSet.{ContextSet}
 use Rattle.access.proofs.Tests.{left, right, T_true}
 use Rattle.access.proofs.ContextLaws.{inside_from, member_inside}
-use Rattle.seek.specs.Plan.{among}
+use Rattle.judge.specs.Plan.{among}
 
 some_from : (n : ℕ) (p : ℕ → Bool) (d : ℕ) → 1 ≤ d → d ≤ n → T (p d) → T (some_to n p)
 unfolding some_to

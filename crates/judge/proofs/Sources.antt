@@ -14,14 +14,14 @@ use Rattle.verdicts.specs.Laws.{AllInside}
 use Rattle.verdicts.specs.Verdicts.{NoneRealised, AtLeast}
 use Rattle.verdicts.proofs.Agreement.{same_length, shown_realised}
 use Rattle.verdicts.proofs.Decided.{direct_from, direct_found}
-use Rattle.moves.specs.declared.step.Step.{Step}
-use Rattle.activities.specs.Found.{Leads, Found, Shortest, Measured, Searched}
-use Rattle.activities.proofs.Properties.{sources_none, source_found}
-use Rattle.seek.specs.Plan.{among}
-use Rattle.moves.specs.Done.{reads_alone}
+use Rattle.judge.specs.declared.step.Step.{Step}
+use Rattle.judge.specs.Found.{Leads, Found, Shortest, Measured, Searched}
+use Rattle.judge.proofs.Properties.{sources_none, source_found}
+use Rattle.judge.specs.Plan.{among}
+use Rattle.judge.specs.Done.{reads_alone}
 use Rattle.judge.specs.Flows.{is_unread, From, Nearest, Best, nearer_of}
 use Rattle.judge.specs.Judged.{Tells}
-use Rattle.judge.specs.declared.flow.Near.{Near}
+use Rattle.judge.specs.declared.nearest.Near.{Near}
 use Rattle.judge.specs.declared.verdict.Verdict.TheVariants.{Guaranteed, Broken}
 use Rattle.judge.proofs.Sets.{none_in, one_is}
 

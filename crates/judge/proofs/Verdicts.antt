@@ -11,13 +11,13 @@ use Rattle.verdicts.specs.Verdicts.{Guaranteed as Holds}
 use Rattle.verdicts.specs.First.{fetches}
 use Rattle.verdicts.proofs.Agreement.{never_both}
 use Rattle.verdicts.proofs.First.{said_as}
-use Rattle.search.specs.declared.Place.{Place}
-use Rattle.moves.specs.declared.step.Step.{Step}
-use Rattle.activities.specs.Found.{Leads}
-use Rattle.seek.specs.Plan.{among}
-use Rattle.seek.specs.Sought.{Suffices}
-use Rattle.properties.specs.declared.property.Template.{Template}
-use Rattle.properties.specs.declared.property.Template.TheVariants.{Integrity, Confidentiality}
+use Rattle.search.specs.declared.breadth_first.Place.{Place}
+use Rattle.judge.specs.declared.step.Step.{Step}
+use Rattle.judge.specs.Found.{Leads}
+use Rattle.judge.specs.Plan.{among}
+use Rattle.judge.specs.Sought.{Suffices}
+use Rattle.access.specs.declared.property.Template.{Template}
+use Rattle.access.specs.declared.property.Template.TheVariants.{Integrity, Confidentiality}
 use Rattle.judge.specs.Judged.{forbidding, Judged, Tells}
 use Rattle.judge.specs.declared.verdict.Verdict.{Verdict}
 use Rattle.judge.specs.declared.verdict.Verdict.TheVariants.{Guaranteed, Broken}

@@ -4,8 +4,8 @@ use Rattle.access.specs.Policy.{Meaning}
 use Rattle.verdicts.specs.Runs.{Grants}
 use Rattle.verdicts.specs.Activities.{contact, apart}
 use Rattle.verdicts.specs.Verdicts.{AsStep}
-use Rattle.moves.specs.declared.step.Step.{Step}
-use Rattle.moves.specs.Moved.{stepped, NoneMakes}
+use Rattle.judge.specs.declared.step.Step.{Step}
+use Rattle.judge.specs.Moved.{stepped, NoneMakes}
 
 -- no contact of s with t goes across
 abbrev pub NoneAcross : Meaning → Grants → (ℕ → Bool) → ℕ → ℕ → Type 0

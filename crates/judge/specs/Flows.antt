@@ -3,10 +3,10 @@ use Rattle.std.specs.Prelude.{ℕ, suc, ◌<◌, ◌≤◌, Bool, cond, not, ◌
 use Rattle.access.specs.Policy.{Meaning}
 use Rattle.verdicts.specs.Runs.{Grants}
 use Rattle.verdicts.specs.Activities.{Move, Flow}
-use Rattle.moves.specs.Done.{reads_alone}
+use Rattle.judge.specs.Done.{reads_alone}
 use Rattle.verdicts.specs.Verdicts.{NoneRealised, AtLeast}
-use Rattle.activities.specs.Found.{Leads, Shortest}
-use Rattle.judge.specs.declared.flow.Near.{Near}
+use Rattle.judge.specs.Found.{Leads, Shortest}
+use Rattle.judge.specs.declared.nearest.Near.{Near}
 
 -- whether b is in B, and the policy alone does not let a read it
 abbrev pub is_unread : Meaning → (ℕ → Bool) → ℕ → ℕ → Bool

@@ -10,14 +10,14 @@ use Rattle.verdicts.specs.Runs.{Grants}
 use Rattle.verdicts.specs.Activities.{Move, Property as Forbidding, integrity, confidentiality, domain, consistency, Forbids}
 use Rattle.verdicts.specs.Verdicts.{NoneRealised, Guaranteed as Holds}
 use Rattle.verdicts.specs.First.{fetches}
-use Rattle.search.specs.declared.Place.{Place}
-use Rattle.moves.specs.declared.step.Step.{Step}
-use Rattle.activities.specs.Found.{Found}
-use Rattle.seek.specs.Sought.{short}
-use Rattle.properties.specs.Fitness.{property_refusal}
-use Rattle.properties.specs.declared.property.Property.{Property}
-use Rattle.properties.specs.declared.property.Template.{Template}
-use Rattle.properties.specs.declared.property.Template.TheVariants.{Integrity, Confidentiality, Domain, Consistency}
+use Rattle.search.specs.declared.breadth_first.Place.{Place}
+use Rattle.judge.specs.declared.step.Step.{Step}
+use Rattle.judge.specs.Found.{Found}
+use Rattle.judge.specs.Sought.{short}
+use Rattle.access.specs.Fitness.{property_refusal}
+use Rattle.access.specs.declared.property.Property.{Property}
+use Rattle.access.specs.declared.property.Template.{Template}
+use Rattle.access.specs.declared.property.Template.TheVariants.{Integrity, Confidentiality, Domain, Consistency}
 use Rattle.judge.specs.declared.verdict.Verdict.{Verdict}
 use Rattle.judge.specs.declared.verdict.Verdict.TheVariants.{Guaranteed, Broken}
 

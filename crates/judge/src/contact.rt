@@ -3,18 +3,18 @@ ghost use Rattle.std.specs.Prelude.{◌≡◌, ℕ, ◌<◌, ◌≤◌, false, �
 ghost use Rattle.access.specs.Contexts.{member};
 ghost use Rattle.verdicts.specs.Activities.{contact, domain, apart, Forbids};
 ghost use Rattle.verdicts.specs.Possible.{makeable};
-ghost use Rattle.moves.specs.Regimes.{meaning_of, grants_of};
-ghost use Rattle.moves.specs.Contextual.{IsSetOf};
+ghost use Rattle.judge.specs.Regimes.{meaning_of, grants_of};
+ghost use Rattle.judge.specs.Contextual.{IsSetOf};
 ghost use Rattle.judge.specs.Judged.{Tells};
 ghost use Rattle.judge.specs.Crossings.{AcrossFrom, AcrossAll};
 
+use crate::movement::{Link, Move};
+use crate::moves::Moves;
+use crate::step::Step;
 use crate::verdict::Verdict;
 use access::context_set::ContextSet;
 use access::policy::Policy;
-use lent::List;
-use moves::movement::{Link, Move};
-use moves::moves::Moves;
-use moves::step::Step;
+use search::lent::List;
 
 /// The contacts across the edge of a set: one end is a member, and the other is none.
 #[derive(Drop)]

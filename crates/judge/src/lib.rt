@@ -1,9 +1,27 @@
-//! Judging whether a property is guaranteed by a policy with standing grants.
+//! Judging a property under a policy with standing grants: the moves that legal runs make, the kinds of activity, seeking a shortest one,
+//! and the verdict.
 
 #![tactic(auto)]
 
+pub mod activity;
+mod by_context;
+pub mod chart;
 mod contact;
-mod flow;
-pub mod judge;
-mod sought;
+mod doings;
+pub mod flow;
+pub mod grant;
+pub mod judging;
+pub mod measure;
+pub mod movement;
+pub mod moves;
+mod nearest;
+mod outline;
+pub mod possible;
+pub mod pull;
+pub mod push;
+pub mod regime;
+mod searched;
+pub mod seek;
+pub mod step;
 pub mod verdict;
+mod way;

@@ -2,8 +2,8 @@
 use Rattle.std.specs.Prelude.{ℕ, false, List, Some, None, Ok, Err, Option, Result, bit_or}
 use Rattle.access.specs.Contexts.{marked}
 use Rattle.access.specs.declared.context_set.ContextSet.{ContextSet}
-use Rattle.moves.specs.declared.grant.Grant.{Grant}
-use Rattle.properties.specs.declared.property.Property.{Property}
+use Rattle.judge.specs.declared.grant.Grant.{Grant}
+use Rattle.access.specs.declared.property.Property.{Property}
 use Rattle.sheet.specs.Book.{Book}
 use Rattle.sheet.specs.declared.request.Request.{Request}
 use Rattle.sheet.specs.declared.request.Request.TheVariants.{Set, EnterGrant, EnterProperty}

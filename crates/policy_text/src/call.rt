@@ -7,9 +7,9 @@ ghost use Rattle.policy_text.specs.Called.{Answers, flaw_of};
 
 use access::context_set::ContextSet;
 use access::policy::Policy;
+use access::property::Property;
 use access::refusal::Refusal;
-use moves::grant::Grant;
-use properties::property::Property;
+use judge::grant::Grant;
 use sheet::sheet::Sheet;
 use words::context::context;
 use words::flaw::Flaw;

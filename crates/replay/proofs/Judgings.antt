@@ -7,13 +7,13 @@ use Rattle.access.specs.Refusals.{first_of, refusal_number}
 use Rattle.access.specs.declared.refusal.Refusal.{Refusal}
 use Rattle.access.specs.declared.refusal.Refusal.TheVariants.{NumberOutside, StandsNot, ShortMemory}
 use Rattle.verdicts.specs.Verdicts.{Guaranteed as Holds}
-use Rattle.search.specs.declared.Place.{Place}
-use Rattle.moves.specs.declared.step.Step.{Step}
-use Rattle.properties.specs.declared.property.Property.{Property}
+use Rattle.search.specs.declared.breadth_first.Place.{Place}
+use Rattle.judge.specs.declared.step.Step.{Step}
+use Rattle.access.specs.declared.property.Property.{Property}
 use Rattle.judge.specs.Judged.{property_of}
 use Rattle.judge.specs.declared.verdict.Verdict.{Verdict}
 use Rattle.judge.specs.declared.verdict.Verdict.TheVariants.{Guaranteed, Broken}
-use Rattle.seek.specs.Sought.{short}
+use Rattle.judge.specs.Sought.{short}
 use Rattle.sheet.specs.Book.{Book, refusal}
 use Rattle.sheet.specs.Judging.{standing_grants, VerdictOn, VerdictOnEntry, Judges}
 use Rattle.sheet.specs.declared.request.Request.TheVariants.{Judge}

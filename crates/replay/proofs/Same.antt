@@ -3,7 +3,7 @@ use Rattle.std.proofs.Common.{◌≡◌, ℕ, List, [], ◌∷◌, Some, None, O
 use Rattle.access.specs.declared.refusal.Refusal.{Refusal}
 use Rattle.verdicts.specs.Verdicts.{Step}
 use Rattle.verdicts.proofs.First.{one_first}
-use Rattle.properties.specs.declared.property.Property.{Property}
+use Rattle.access.specs.declared.property.Property.{Property}
 use Rattle.sheet.specs.Book.{Book, refusal, fed}
 use Rattle.sheet.specs.Judging.{standing_grants}
 use Rattle.sheet.specs.declared.request.Request.{Request}

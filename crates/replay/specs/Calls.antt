@@ -2,8 +2,8 @@
 use Rattle.std.specs.Prelude.{◌≤◌, Bool, true, false, List, map, take, Ok, Err, Result}
 use Rattle.access.specs.Refusals.{refusal_number}
 use Rattle.access.specs.declared.refusal.Refusal.{Refusal}
-use Rattle.moves.specs.Moved.{stepped}
-use Rattle.moves.specs.declared.step.Step.{Step}
+use Rattle.judge.specs.Moved.{stepped}
+use Rattle.judge.specs.declared.step.Step.{Step}
 use Rattle.judge.specs.declared.verdict.Verdict.{Verdict}
 use Rattle.judge.specs.declared.verdict.Verdict.TheVariants.{Guaranteed, Broken}
 use Rattle.sheet.specs.declared.request.Request.{Request}

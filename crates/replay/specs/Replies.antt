@@ -4,8 +4,8 @@ use Rattle.access.specs.Refusals.{refusal_number}
 use Rattle.access.specs.declared.refusal.Refusal.{Refusal}
 use Rattle.verdicts.specs.Verdicts.{Step, Guaranteed as Holds}
 use Rattle.verdicts.specs.First.{BrokenBy}
-use Rattle.moves.specs.Moved.{stepped}
-use Rattle.properties.specs.declared.property.Property.{Property}
+use Rattle.judge.specs.Moved.{stepped}
+use Rattle.access.specs.declared.property.Property.{Property}
 use Rattle.judge.specs.Judged.{property_of}
 use Rattle.sheet.specs.Book.{Book, refusal, fed}
 use Rattle.sheet.specs.Judging.{standing_grants}

@@ -3,7 +3,7 @@ ghost use Rattle.std.specs.Prelude.{◌≡◌, ◌≤◌, length, take};
 
 use access::operation_set::OperationSet;
 use access::refusal::Refusal;
-use moves::step::Step;
+use judge::step::Step;
 
 /// How many steps a broken property is shown by at most: no more than there are contexts.
 pub const MOST_STEPS: usize = 256;

@@ -9,9 +9,9 @@ use crate::answer::{Answer, MOST_STEPS, ShownSteps};
 use access::operation::Operation;
 use access::policy::Policy;
 use access::refusal::Refusal;
+use judge::step::Step;
 use judge::verdict::Verdict;
-use moves::step::Step;
-use search::Place;
+use search::breadth_first::Place;
 use sheet::sheet::Sheet;
 
 /// As many ticks and places as 256 contexts take.

@@ -3,7 +3,7 @@ use Rattle.std.proofs.Common.{◌≡◌, ℕ, ◌+◌, ◌-◌, ◌<◌, ◌≤�
 use Rattle.std.proofs.lemmas.List.{drop-drop, take-append-drop, take_more, append-nil}
 use Rattle.std.proofs.lemmas.Grind.{flat_map-append}
 use Rattle.std.specs.List.{flat_map}
-use Rattle.lent.specs.declared.List.{List as Lent}
+use Rattle.search.specs.declared.lent.List.{List as Lent}
 use Rattle.report.specs.Parts.{InFront}
 use Rattle.report.specs.Written.{Wrote}
 

@@ -7,9 +7,9 @@ use Rattle.access.specs.declared.operation.Operation.TheVariants.{Read, Write, A
 use Rattle.std.specs.Prelude.{slice_index_or, decimal}
 use Rattle.verdicts.specs.Verdicts.{Step as Stepping}
 use Rattle.verdicts.proofs.First.{one_first}
-use Rattle.moves.specs.Moved.{stepped}
-use Rattle.moves.specs.declared.step.Step.{Step}
-use Rattle.properties.specs.declared.property.Property.{Property}
+use Rattle.judge.specs.Moved.{stepped}
+use Rattle.judge.specs.declared.step.Step.{Step}
+use Rattle.access.specs.declared.property.Property.{Property}
 use Rattle.judge.specs.declared.verdict.Verdict.{Verdict}
 use Rattle.judge.specs.declared.verdict.Verdict.TheVariants.{Guaranteed, Broken}
 use Rattle.sheet.specs.Book.{Book}

@@ -7,9 +7,9 @@ use Rattle.std.specs.Io.KnownBytes.{Appends}
 use Rattle.std.proofs.KnownBytes.{Appends-nil, Appends-trans}
 use Rattle.access.specs.Contexts.{inside}
 use Rattle.access.specs.declared.refusal.Refusal.{Refusal}
-use Rattle.search.specs.declared.Place.{Place}
-use Rattle.moves.specs.declared.step.Step.{Step}
-use Rattle.seek.specs.Sought.{short}
+use Rattle.search.specs.declared.breadth_first.Place.{Place}
+use Rattle.judge.specs.declared.step.Step.{Step}
+use Rattle.judge.specs.Sought.{short}
 use Rattle.sheet.specs.Book.{Book}
 use Rattle.report.specs.Parts.{part}
 use Rattle.report.specs.Reporting.{reporting_refusal, Reports, NoneAbove, IsNext}

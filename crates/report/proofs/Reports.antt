@@ -6,9 +6,9 @@ use Rattle.std.specs.Result.{result_err}
 use Rattle.access.specs.Refusals.{first_of}
 use Rattle.access.specs.declared.refusal.Refusal.{Refusal}
 use Rattle.access.specs.declared.refusal.Refusal.TheVariants as why
-use Rattle.search.specs.declared.Place.{Place}
-use Rattle.moves.specs.declared.step.Step.{Step}
-use Rattle.properties.specs.declared.property.Property.{Property}
+use Rattle.search.specs.declared.breadth_first.Place.{Place}
+use Rattle.judge.specs.declared.step.Step.{Step}
+use Rattle.access.specs.declared.property.Property.{Property}
 use Rattle.judge.specs.declared.verdict.Verdict.{Verdict}
 use Rattle.judge.specs.declared.verdict.Verdict.TheVariants.{Guaranteed, Broken}
 use Rattle.sheet.specs.Book.{Book}

@@ -1,7 +1,7 @@
 -- What is printed of a policy text.
 use Rattle.std.specs.Prelude.{◌≡◌, ℕ, List, [], ◌++◌, codes, Ok, Err, Option, Result}
 use Rattle.std.specs.Io.KnownBytes.{Appends}
-use Rattle.moves.specs.declared.step.Step.{Step}
+use Rattle.judge.specs.declared.step.Step.{Step}
 use Rattle.judge.specs.declared.verdict.Verdict.{Verdict}
 use Rattle.sheet.specs.Book.{Book}
 use Rattle.sheet.specs.Judging.{VerdictOnEntry}

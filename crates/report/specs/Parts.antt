@@ -4,7 +4,7 @@ use Rattle.access.specs.Operations.{name_of}
 use Rattle.access.specs.Refusals.{first_of}
 use Rattle.access.specs.declared.refusal.Refusal.{Refusal}
 use Rattle.access.specs.declared.refusal.Refusal.TheVariants.{ShortMemory}
-use Rattle.moves.specs.declared.step.Step.{Step}
+use Rattle.judge.specs.declared.step.Step.{Step}
 use Rattle.judge.specs.declared.verdict.Verdict.{Verdict}
 use Rattle.judge.specs.declared.verdict.Verdict.TheVariants.{Guaranteed, Broken}
 use Rattle.words.specs.Numbering.{name_of_number}

@@ -3,8 +3,8 @@ use Rattle.std.specs.Prelude.{◌≡◌, ℕ, ◌<◌, ◌≤◌, true, is_some,
 use Rattle.std.specs.Option.{option_or}
 use Rattle.access.specs.declared.refusal.Refusal.{Refusal}
 use Rattle.access.specs.declared.refusal.Refusal.TheVariants.{ShortMemory}
-use Rattle.search.specs.declared.Place.{Place}
-use Rattle.moves.specs.declared.step.Step.{Step}
+use Rattle.search.specs.declared.breadth_first.Place.{Place}
+use Rattle.judge.specs.declared.step.Step.{Step}
 use Rattle.judge.specs.declared.verdict.Verdict.{Verdict}
 use Rattle.sheet.specs.Book.{Book, refusal}
 use Rattle.sheet.specs.declared.request.Request.TheVariants.{Judge}

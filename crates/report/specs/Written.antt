@@ -1,6 +1,6 @@
 -- What is written into lent memory.
 use Rattle.std.specs.Prelude.{◌≡◌, ℕ, ◌+◌, ◌≤◌, List, ◌++◌, length, take, drop}
-use Rattle.lent.specs.declared.List.{List as Lent}
+use Rattle.search.specs.declared.lent.List.{List as Lent}
 
 -- so many bytes can still be written
 abbrev pub Room : ℕ → Lent ℕ → Type 0

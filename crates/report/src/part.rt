@@ -5,9 +5,9 @@ ghost use Rattle.report.specs.Parts.{step_line, step_lines, broken, said, has_ro
 
 use crate::writing::{write, write_number, write_word};
 use access::refusal::Refusal;
+use judge::step::Step;
 use judge::verdict::Verdict;
-use lent::List;
-use moves::step::Step;
+use search::lent::List;
 use words::names::Names;
 
 /// How many bytes report memory has at least.

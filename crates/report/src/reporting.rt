@@ -7,8 +7,8 @@ ghost use Rattle.report.specs.Reporting.{reporting_refusal, Reports, NoneAbove, 
 use crate::part::{REPORT_MEMORY, write_part};
 use access::policy::Policy;
 use access::refusal::Refusal;
-use moves::step::Step;
-use search::Place;
+use judge::step::Step;
+use search::breadth_first::Place;
 use sheet::judging::Judging;
 use words::names::Names;
 

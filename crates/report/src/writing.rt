@@ -3,7 +3,7 @@ ghost use Rattle.std.specs.Prelude.{◌+◌, ◌≤◌, ◌∷◌, length, decim
 ghost use Rattle.report.specs.Written.{Room, Wrote};
 
 use itoa::Buffer;
-use lent::List;
+use search::lent::List;
 
 /// Writes bytes behind those that stand.
 pub(crate) fn write(report: &mut List<'_, u8>, bytes: &[u8])

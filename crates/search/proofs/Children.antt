@@ -2,10 +2,10 @@
 use Rattle.std.proofs.Common.{◌≡◌, ℕ, ◌+◌, ◌-◌, ◌<◌, ◌≤◌, Bool, true, false, not, ◌&&◌, eqb, ◌≢◌, List, get_or, Option, sym, refl, ap, ◌∙◌, subst, ⊎_elim, arith}
 use Rattle.std.proofs.lemmas.Bool.{cases_lt}
 use Rattle.std.proofs.lemmas.Bool.Decides.{nat_tests}
-use Rattle.lent.specs.declared.Cleared.{Cleared}
+use Rattle.search.specs.declared.lent.Cleared.{Cleared}
 use Rattle.search.specs.Problem.{Problem, FirstAt, outside, leads}
 use Rattle.search.specs.Queue.{at, Open, Queue, Ticked, Child, Children, Born, Grown}
-use Rattle.search.specs.declared.Place.{Place}
+use Rattle.search.specs.declared.breadth_first.Place.{Place}
 
 zero_from : (x : ℕ) (led set : Bool) → set ≡ not (eqb x 0) → (led && not set) ≡ true → x ≡ 0
 zero_from x led set e f = grind (arith, nat_tests)

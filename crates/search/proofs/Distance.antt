@@ -9,7 +9,7 @@ use Rattle.search.specs.Trails.{Foremost}
 use Rattle.search.proofs.Asked.{leads_on}
 use Rattle.search.proofs.Trails.{back_trail}
 use Rattle.search.proofs.Order.{reach, before_head, order_on, order_start, foremost_on}
-use Rattle.search.specs.declared.Place.{Place}
+use Rattle.search.specs.declared.breadth_first.Place.{Place}
 use Rattle.search.proofs.Frontier.{used_le, at_kept, drop_on}
 
 -- the parents lead back along a walk

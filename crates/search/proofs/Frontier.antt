@@ -2,11 +2,11 @@
 use Rattle.std.proofs.Common.{◌≡◌, ℕ, zero, suc, ◌+◌, ◌-◌, ◌<◌, ◌≤◌, Bool, true, false, ◌≢◌, ◌⊎◌, List, length, get_or, set, drop, sym, refl, ap, ◌∙◌, subst, inl, inr, ⊎_elim, arith, get_or-set_other, get_or-set_same}
 use Rattle.std.proofs.lemmas.List.{length-set, drop-drop, drop-set-lt}
 use Rattle.std.proofs.lemmas.Bool.{both_ways, cases_eq, cases_lt}
-use Rattle.lent.specs.declared.Cleared.{Cleared}
-use Rattle.lent.specs.declared.List.{List as Places}
+use Rattle.search.specs.declared.lent.Cleared.{Cleared}
+use Rattle.search.specs.declared.lent.List.{List as Places}
 use Rattle.search.specs.Problem.{Problem, of_node}
 use Rattle.search.specs.Queue.{blank, at, total, After, Sound, At, Open, Within, Queue, Grown, Struck, Went, Ready, Waiting, Stepped, Pushed, Lent}
-use Rattle.search.specs.declared.Place.{Place}
+use Rattle.search.specs.declared.breadth_first.Place.{Place}
 use Rattle.search.proofs.Asked.{of_node_is}
 
 pub total_le : (ts : List ℕ) (n : ℕ) → ((v : ℕ) → v < n → get_or ts v 0 ≤ 1) → total ts n ≤ n

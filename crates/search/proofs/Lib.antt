@@ -1,3 +1,4 @@
+pub mod Rooms
 pub mod Asked
 pub mod Frontier
 pub mod Trails

@@ -6,7 +6,7 @@ use Rattle.search.specs.Problem.Walk.{stay, step}
 use Rattle.search.specs.Trails.{Trail, Before, NotAfter, Foremost}
 use Rattle.search.specs.Trails.Trail.{begin, onward}
 use Rattle.search.specs.Queue.{at, way_back, At, Children, Born, Grown, Struck, Ordered, Spread}
-use Rattle.search.specs.declared.Place.{Place}
+use Rattle.search.specs.declared.breadth_first.Place.{Place}
 use Rattle.search.proofs.Asked.{leads_on}
 use Rattle.search.proofs.Trails.{before_then, behind, lower, trail_way, back_length, back_on, back_start, way_same}
 

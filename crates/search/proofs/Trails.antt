@@ -5,7 +5,7 @@ use Rattle.search.specs.Problem.Walk.{stay, step}
 use Rattle.search.specs.Trails.{Trail, Before, NotAfter}
 use Rattle.search.specs.Trails.Trail.{begin, onward}
 use Rattle.search.specs.Queue.{at, back, way_back, Sound}
-use Rattle.search.specs.declared.Place.{Place}
+use Rattle.search.specs.declared.breadth_first.Place.{Place}
 
 -- ---- the order of walks with as many nodes
 

@@ -1,11 +1,11 @@
 -- What the ticks and the places say while a search goes on.
 use Rattle.std.specs.Prelude.{◌≡◌, ℕ, zero, suc, ◌+◌, ◌-◌, ◌<◌, ◌≤◌, Bool, true, false, not, ◌==◌, List, [], ◌∷◌, length, drop, Ok, Err, Option, Result, MatchOption, ◌≢◌, slice_index, slice_index_or}
-use Rattle.lent.specs.declared.Cleared.{Cleared}
-use Rattle.lent.specs.declared.List.{List as Places}
+use Rattle.search.specs.declared.lent.Cleared.{Cleared}
+use Rattle.search.specs.declared.lent.List.{List as Places}
 use Rattle.search.specs.Problem.{Problem, leads, Way, Nowhere, Least}
 use Rattle.search.specs.Trails.{Trail, Before, NotAfter, Foremost}
-use Rattle.search.specs.declared.Place.{Place}
-use Rattle.search.specs.declared.TooShort.{TooShort}
+use Rattle.search.specs.declared.breadth_first.Place.{Place}
+use Rattle.search.specs.declared.breadth_first.TooShort.{TooShort}
 
 -- what is read behind the last place
 abbrev pub blank : Place

@@ -8,10 +8,10 @@ use Rattle.access.specs.Refusals.{answer, when_accepted}
 use Rattle.access.specs.Setting.{setting_refusal, with_set, after_setting}
 use Rattle.access.specs.declared.refusal.Refusal.{Refusal}
 use Rattle.access.proofs.Settings.{answer_ok}
-use Rattle.entries.specs.Entries.{Entries, put, put_within}
-use Rattle.entries.specs.Standing.{entering_refusal}
-use Rattle.properties.specs.Fitness.{property_refusal}
-use Rattle.properties.specs.declared.property.Property.{Property}
+use Rattle.sheet.specs.Entries.{Entries, put, put_within}
+use Rattle.sheet.specs.Standing.{entering_refusal}
+use Rattle.access.specs.Fitness.{property_refusal}
+use Rattle.access.specs.declared.property.Property.{Property}
 use Rattle.sheet.specs.Book.{Book, refusal}
 use Rattle.sheet.specs.Judging.{AllFit}
 use Rattle.sheet.specs.Undo.{undone, undo}

@@ -4,16 +4,16 @@ use Rattle.access.specs.Contexts.{inside}
 use Rattle.std.specs.Option.{ok_or}
 use Rattle.access.specs.declared.refusal.Refusal.{Refusal}
 use Rattle.access.specs.declared.refusal.Refusal.TheVariants as why
-use Rattle.search.specs.declared.Place.{Place}
-use Rattle.moves.specs.Grants.{standing}
-use Rattle.moves.specs.declared.grant.Grant.{Grant}
-use Rattle.moves.specs.declared.step.Step.{Step}
-use Rattle.properties.specs.declared.property.Property.{Property}
-use Rattle.properties.specs.Fitness.{property_refusal}
+use Rattle.search.specs.declared.breadth_first.Place.{Place}
+use Rattle.judge.specs.Grants.{standing}
+use Rattle.judge.specs.declared.grant.Grant.{Grant}
+use Rattle.judge.specs.declared.step.Step.{Step}
+use Rattle.access.specs.declared.property.Property.{Property}
+use Rattle.access.specs.Fitness.{property_refusal}
 use Rattle.judge.specs.Judged.{judging_refusal, Answered}
 use Rattle.judge.specs.declared.verdict.Verdict.{Verdict}
-use Rattle.entries.specs.Entries.{in_order}
-use Rattle.entries.specs.Standing.{entry_at}
+use Rattle.sheet.specs.Entries.{in_order}
+use Rattle.sheet.specs.Standing.{entry_at}
 use Rattle.sheet.specs.Book.{Book, refusal}
 use Rattle.sheet.specs.Judging.{AllFit, standing_grants, Judges}
 use Rattle.sheet.specs.declared.request.Request.TheVariants.{Judge}

@@ -6,7 +6,7 @@ use Rattle.std.proofs.Props.{props}
 use mathlib.Core.HLevel.{is_prop→PathP}
 use Rattle.sheet.specs.Undo.{change_undoable}
 use Rattle.sheet.specs.Judging.{AllFit}
-use Rattle.entries.specs.Held.{held}
+use Rattle.sheet.specs.Held.{held}
 use Rattle.sheet.specs.declared.sheet.Sheet.{Sheet}
 
 -- sheets with the same fields are the same

@@ -8,9 +8,9 @@ use Rattle.access.specs.Setting.{setting_refusal, with_set, after_setting}
 use Rattle.access.specs.declared.operation_set.OperationSet.{OperationSet}
 use Rattle.access.specs.declared.refusal.Refusal.{Refusal}
 use Rattle.access.proofs.Settings.{answer_ok, answer_err, accepted_inside}
-use Rattle.entries.specs.Entries.{Entries}
-use Rattle.moves.specs.declared.grant.Grant.{Grant}
-use Rattle.properties.specs.declared.property.Property.{Property}
+use Rattle.sheet.specs.Entries.{Entries}
+use Rattle.judge.specs.declared.grant.Grant.{Grant}
+use Rattle.access.specs.declared.property.Property.{Property}
 use Rattle.sheet.specs.Undo.{undo, undoable, change_undoable}
 use Rattle.sheet.specs.Book.{Book, notes_full, refusal, fed, one_more}
 use Rattle.sheet.specs.Shown.{opened}

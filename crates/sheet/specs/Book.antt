@@ -8,12 +8,12 @@ use Rattle.access.specs.Refusals.{first_of, when_accepted}
 use Rattle.access.specs.Setting.{setting_rungs, no_room, with_set}
 use Rattle.access.specs.declared.refusal.Refusal.{Refusal}
 use Rattle.access.specs.declared.refusal.Refusal.TheVariants.{NumberOutside, StandsAlready, StandsNot, UnfitOperations, UnfitSet, OpenAlready, NoneOpen, ShortMemory}
-use Rattle.entries.specs.Entries.{Entries, put}
-use Rattle.entries.specs.Standing.{entering_refusal, striking_refusal}
-use Rattle.moves.specs.declared.grant.Grant.{Grant}
-use Rattle.seek.specs.Sought.{short}
-use Rattle.properties.specs.Fitness.{unfit, property_refusal}
-use Rattle.properties.specs.declared.property.Property.{Property}
+use Rattle.sheet.specs.Entries.{Entries, put}
+use Rattle.sheet.specs.Standing.{entering_refusal, striking_refusal}
+use Rattle.judge.specs.declared.grant.Grant.{Grant}
+use Rattle.judge.specs.Sought.{short}
+use Rattle.access.specs.Fitness.{unfit, property_refusal}
+use Rattle.access.specs.declared.property.Property.{Property}
 use Rattle.sheet.specs.declared.request.Request.{Request}
 use Rattle.sheet.specs.declared.request.Request.TheVariants.{Set, EnterGrant, StrikeGrant, EnterProperty, StrikeProperty, Open, Adopt, Withdraw, Judge}
 

@@ -3,15 +3,15 @@ use Rattle.std.specs.Prelude.{◌≡◌, ℕ, ◌↔◌, List, length, Some, Non
 use Rattle.access.specs.declared.refusal.Refusal.{Refusal}
 use Rattle.verdicts.specs.Runs.{Grants}
 use Rattle.verdicts.specs.Verdicts.{Guaranteed as Holds}
-use Rattle.search.specs.declared.Place.{Place}
-use Rattle.moves.specs.Grants.{standing}
-use Rattle.moves.specs.declared.step.Step.{Step}
-use Rattle.properties.specs.Fitness.{property_refusal}
-use Rattle.properties.specs.declared.property.Property.{Property}
+use Rattle.search.specs.declared.breadth_first.Place.{Place}
+use Rattle.judge.specs.Grants.{standing}
+use Rattle.judge.specs.declared.step.Step.{Step}
+use Rattle.access.specs.Fitness.{property_refusal}
+use Rattle.access.specs.declared.property.Property.{Property}
 use Rattle.judge.specs.Judged.{property_of, Judged}
 use Rattle.judge.specs.declared.verdict.Verdict.{Verdict}
 use Rattle.judge.specs.declared.verdict.Verdict.TheVariants.{Guaranteed}
-use Rattle.entries.specs.Entries.{Entries, in_order}
+use Rattle.sheet.specs.Entries.{Entries, in_order}
 use Rattle.sheet.specs.Book.{Book, refusal}
 use Rattle.sheet.specs.declared.request.Request.TheVariants.{Judge}
 

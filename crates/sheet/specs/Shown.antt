@@ -2,7 +2,7 @@
 use Rattle.std.specs.Prelude.{List, length, Some, None, Ok, Err, Option, Result}
 use Rattle.access.specs.Policy.{Meaning}
 use Rattle.access.specs.declared.refusal.Refusal.{Refusal}
-use Rattle.entries.specs.Held.{held}
+use Rattle.sheet.specs.Held.{held}
 use Rattle.sheet.specs.Undo.{undo}
 use Rattle.sheet.specs.Book.{Opened, Book}
 use Rattle.sheet.specs.declared.note.Note.{Note}

@@ -6,11 +6,11 @@ ghost use Rattle.sheet.specs.Shown.{shown};
 ghost use Rattle.sheet.specs.declared.request.Request.TheVariants.{EnterGrant, StrikeGrant, EnterProperty, StrikeProperty};
 
 use crate::sheet::Sheet;
+use access::fitness::is_unfit;
 use access::policy::Policy;
+use access::property::Property;
 use access::refusal::Refusal;
-use moves::grant::Grant;
-use properties::fitness::is_unfit;
-use properties::property::Property;
+use judge::grant::Grant;
 
 impl<P: Policy> Sheet<P> {
     /// Checks that a grant can be entered.

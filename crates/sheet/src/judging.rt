@@ -1,20 +1,20 @@
 //! A property that stands is judged.
 ghost use Rattle.std.specs.Prelude.{◌≡◌, length, replicate};
-ghost use Rattle.entries.specs.Entries.{in_order};
-ghost use Rattle.entries.specs.Held.{held};
+ghost use Rattle.sheet.specs.Entries.{in_order};
+ghost use Rattle.sheet.specs.Held.{held};
 ghost use Rattle.sheet.specs.Shown.{shown};
 ghost use Rattle.sheet.specs.Judging.{Judges};
 
 use crate::sheet::Sheet;
 use access::policy::Policy;
 use access::refusal::Refusal;
-use judge::judge::judge;
+use judge::judging::judge;
+use judge::moves::Moves;
+use judge::regime::Regime;
+use judge::step::Step;
 use judge::verdict::Verdict;
-use lent::Cleared;
-use moves::moves::Moves;
-use moves::regime::Regime;
-use moves::step::Step;
-use search::Place;
+use search::breadth_first::Place;
+use search::lent::Cleared;
 
 /// A sheet, with the moves that its legal runs make worked out once, for any number of judgings.
 #[derive(Drop)]

@@ -11,3 +11,4 @@ mod notes;
 pub mod request;
 pub mod setting;
 pub mod sheet;
+pub mod table;

@@ -1,7 +1,7 @@
 //! The calls of a sheet as values.
 use access::operation_set::OperationSet;
-use moves::grant::Grant;
-use properties::property::Property;
+use access::property::Property;
+use judge::grant::Grant;
 
 /// A call with its arguments.
 #[derive(Clone, Copy, Debug, PartialEq, Eq)]

@@ -1,16 +1,16 @@
 //! A sheet over any policy: how it is laid out, and what it can be asked.
 ghost use Rattle.std.specs.Prelude.{◌≡◌, true};
-ghost use Rattle.entries.specs.Held.{held};
+ghost use Rattle.sheet.specs.Held.{held};
 ghost use Rattle.sheet.specs.Book.{start};
 ghost use Rattle.sheet.specs.Undo.{change_undoable};
 ghost use Rattle.sheet.specs.Judging.{AllFit};
 
 use crate::notes::Notes;
+use crate::table::Table;
 use access::operation_set::OperationSet;
 use access::policy::Policy;
-use entries::table::Table;
-use moves::grant::Grant;
-use properties::property::Property;
+use access::property::Property;
+use judge::grant::Grant;
 
 /// A policy with grants 1 to 32, properties 1 to 64, at most one open change, and the count of accepted settings.
 #[derive(Drop)]

@@ -2,13 +2,13 @@
 use access::context_set::ContextSet;
 use access::operation::Operation;
 use access::operation_set::OperationSet;
+use access::property::{Property, Template};
 use access::refusal::Refusal;
-use moves::grant::Grant;
-use moves::step::Step;
-use properties::property::{Property, Template};
+use judge::grant::Grant;
+use judge::step::Step;
 use record_table::table::RecordTable;
 use report::reporting::{next_property, report_property};
-use search::Place;
+use search::breadth_first::Place;
 use sheet::judging::Judging;
 use sheet::sheet::Sheet;
 use std::test::Fail;

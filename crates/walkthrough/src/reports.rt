@@ -5,7 +5,7 @@ use policy_text::pile::Pile;
 use policy_text::read::read;
 use report::part::REPORT_MEMORY;
 use report::reporting::{next_property, report_property};
-use search::Place;
+use search::breadth_first::Place;
 use sheet::judging::Judging;
 use std::alloc::{AllocError, Global};
 use std::io;

@@ -1,7 +1,7 @@
 -- Words that name templates.
 use Rattle.std.specs.Prelude.{cond, codes, Ok, Err, Result, bytes_eq}
-use Rattle.properties.specs.declared.property.Template.{Template}
-use Rattle.properties.specs.declared.property.Template.TheVariants.{Integrity, Confidentiality, Domain, Consistency}
+use Rattle.access.specs.declared.property.Template.{Template}
+use Rattle.access.specs.declared.property.Template.TheVariants.{Integrity, Confidentiality, Domain, Consistency}
 use Rattle.access.specs.declared.refusal.Refusal.TheVariants.{UnfitWord}
 use Rattle.words.specs.Words.{WordAt}
 use Rattle.words.specs.Flaws.{at_word}

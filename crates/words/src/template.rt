@@ -5,8 +5,8 @@ ghost use Rattle.words.specs.Templates.{template_in};
 
 use crate::flaw::Flaw;
 use crate::word::Word;
+use access::property::Template;
 use access::refusal::Refusal;
-use properties::property::Template;
 
 /// The template that a word names.
 pub fn template(word: Word<'_>) -> Result<Template, Flaw>

@@ -11,9 +11,9 @@ use Rattle.verdicts.specs.Verdicts.{Guaranteed, Broken}
 use Rattle.verdicts.proofs.Inside.{Inside, sound_inside}
 use Rattle.verdicts.proofs.Decided.{direct_from}
 use Rattle.access.proofs.ContextLaws.{above_zero}
-use Rattle.properties.specs.declared.property.Template.{Template}
-use Rattle.properties.specs.declared.property.Template.TheVariants.{Integrity, Confidentiality, Domain, Consistency}
-use Rattle.properties.specs.Fitness.{unfit, unfit_second}
+use Rattle.access.specs.declared.property.Template.{Template}
+use Rattle.access.specs.declared.property.Template.TheVariants.{Integrity, Confidentiality, Domain, Consistency}
+use Rattle.access.specs.Fitness.{unfit, unfit_second}
 use Rattle.sheet.specs.Book.{start, refusal}
 use Rattle.sheet.specs.declared.request.Request.TheVariants.{EnterProperty}
 use Rattle.worked_cases.specs.Entered.{Only, Meets}

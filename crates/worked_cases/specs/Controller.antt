@@ -9,8 +9,8 @@ use Rattle.access.specs.Sound.{Sound}
 use Rattle.verdicts.specs.Runs.{Grants}
 use Rattle.verdicts.specs.Activities.{Property, integrity, confidentiality, domain, consistency}
 use Rattle.verdicts.specs.Verdicts.{Guaranteed, Broken}
-use Rattle.properties.specs.declared.property.Template.{Template}
-use Rattle.properties.specs.declared.property.Template.TheVariants.{Domain}
+use Rattle.access.specs.declared.property.Template.{Template}
+use Rattle.access.specs.declared.property.Template.TheVariants.{Domain}
 use Rattle.sheet.specs.Book.{start, refusal}
 use Rattle.sheet.specs.declared.request.Request.TheVariants.{EnterProperty}
 use Rattle.worked_cases.specs.Vectors.{one_of, flat, raised, piled, step, Vector}

@@ -1,6 +1,6 @@
 use Rattle.std.proofs.Common.{subst, sym}
 use Rattle.access.specs.Contexts.{member}
-use Rattle.moves.specs.Regimes.{meaning_of, grants_of}
+use Rattle.judge.specs.Regimes.{meaning_of, grants_of}
 use Rattle.judge.specs.Crossings.{AcrossFrom}
 use Rattle.judge.proofs.Crosses.{crossing_none, crossing_some}
 use Rattle.judge.proofs.contact.Domain.crossing_from.Goals as goal

@@ -1,6 +1,6 @@
 use Rattle.std.proofs.Common.{refl, arith}
 use Rattle.access.specs.Contexts.{member}
-use Rattle.moves.specs.Regimes.{meaning_of, grants_of}
+use Rattle.judge.specs.Regimes.{meaning_of, grants_of}
 use Rattle.judge.proofs.Crosses.{contact_some, contact_none}
 use Rattle.judge.proofs.contact.Domain.judge.Goals as goal
 

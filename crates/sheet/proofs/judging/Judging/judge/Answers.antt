@@ -1,5 +1,5 @@
 use Rattle.std.proofs.Common.{subst}
-use Rattle.moves.specs.Grants.{standing}
+use Rattle.judge.specs.Grants.{standing}
 use Rattle.judge.specs.Judged.{Answered}
 use Rattle.sheet.specs.Shown.{shown}
 use Rattle.sheet.proofs.JudgingLaws.{judges_found}

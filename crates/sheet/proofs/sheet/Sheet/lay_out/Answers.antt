@@ -1,6 +1,6 @@
 use Rattle.std.proofs.Common.{refl, sym, subst, arith}
-use Rattle.entries.specs.Entries.{Entries}
-use Rattle.properties.specs.declared.property.Property.{Property}
+use Rattle.sheet.specs.Entries.{Entries}
+use Rattle.access.specs.declared.property.Property.{Property}
 use Rattle.sheet.specs.Judging.{AllFit}
 use Rattle.sheet.proofs.sheet.Sheet.lay_out.Goals as goal
 

@@ -1,5 +1,0 @@
-use Rattle.entries.proofs.Listed.{listed_order}
-use Rattle.entries.proofs.table.Table.all.Goals as goal
-
-pub returns-clause-ordered : goal.returns-clause-ordered
-returns-clause-ordered g c = listed_order g.row.N c.args.self.now.entries c.args.self.now.sized

@@ -1,0 +1,5 @@
+use Rattle.std.proofs.Common.{rules}
+use Rattle.judge.proofs.moves.got_by.Goals as goal
+
+pub returns : goal.returns
+returns c = c.passing.ensures _ (λ t b made. search rules)

@@ -1,5 +1,0 @@
-use Rattle.std.proofs.Common.{rules}
-use Rattle.moves.proofs.doings.allowed.Goals as goal
-
-pub returns : goal.returns
-returns c = c.passing.ensures _ (λ t b made. search rules)

@@ -1,8 +1,0 @@
-mod Charted
-mod Nexts
-mod Lines
-mod Turns
-mod Puts
-mod Memory
-mod Sought
-mod Trailed

@@ -1,5 +1,0 @@
-use Rattle.seek.proofs.Turns.{Turning}
-use Rattle.seek.proofs.way.Way.turn.Given as goal
-
-abbrev pub invariant-loop-left : goal.invariant-loop-left
-invariant-loop-left g l = Turning l.self l.here l.left

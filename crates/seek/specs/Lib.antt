@@ -1,4 +1,0 @@
-pub mod Plan
-pub mod Charts
-pub mod Ways
-pub mod Sought
