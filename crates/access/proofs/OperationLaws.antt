@@ -36,6 +36,10 @@ trailing_below (suc k) n (suc o) h b =
     let ih = trailing_below k (n / 2) o (subst T (has_suc n o) h) (omega arith) in
     omega (arith, under_most (n % 2) (count_trailing_zeros k (n / 2)))
 
+-- together: the trailing zeros are the lowest member
+pub trailing_lowest : (k n o : ℕ) → T (has n o) → o < k → T (has n (count_trailing_zeros k n)) × (count_trailing_zeros k n ≤ o)
+trailing_lowest k n o h b = let l = trailing_below k n o h b in (trailing_has k n (omega arith), l)
+
 pub number_below : (o : Operation) → number_of o < 12
 number_below o = grind arith
 

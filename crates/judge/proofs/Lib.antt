@@ -24,4 +24,5 @@ pub mod Fit
 mod Verdicts
 mod Crosses
 mod Sets
+mod Shared
 mod Sources

@@ -8,7 +8,7 @@ use Rattle.access.proofs.Tests.{left, right, T_true}
 use Rattle.access.proofs.ContextLaws.{inside_from, member_inside}
 use Rattle.judge.specs.Plan.{among}
 
-some_from : (n : ℕ) (p : ℕ → Bool) (d : ℕ) → 1 ≤ d → d ≤ n → T (p d) → T (some_to n p)
+pub some_from : (n : ℕ) (p : ℕ → Bool) (d : ℕ) → 1 ≤ d → d ≤ n → T (p d) → T (some_to n p)
 unfolding some_to
 some_from zero p d h l t = absurd (omega arith)
 some_from (suc n) p d h l t =

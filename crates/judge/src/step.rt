@@ -10,6 +10,7 @@ ghost use Rattle.judge.specs.Moved.{moved, ShownAs, LowestOf};
 use crate::grant::lowest_giver;
 use crate::movement::Move;
 use crate::moves::Moves;
+use crate::regime::Regime;
 use access::operation::Operation;
 use access::operation_set::OperationSet;
 use access::policy::Policy;
@@ -25,25 +26,25 @@ pub struct Step {
     pub origin: u8,
 }
 
-impl<P: Policy> Moves<'_, P> {
+impl<P: Policy> Regime<'_, P> {
     /// Where a possible interaction comes from.
     fn origin(&self, s: u16, t: u16, operation: Operation) -> u8
-        requires { T (has (possible_on (meaning_of P.Policy.meaning self.now.regime) (grants_of self.now.regime) s t) (number_of operation)) }
-        ensures { Origin (meaning_of P.Policy.meaning self.now.regime) (grants_of self.now.regime) (doing s t (number_of operation)) result }
+        requires { T (has (possible_on (meaning_of P.Policy.meaning self.now) (grants_of self.now) s t) (number_of operation)) }
+        ensures { Origin (meaning_of P.Policy.meaning self.now) (grants_of self.now) (doing s t (number_of operation)) result }
     {
-        let policy = self.regime.policy;
+        let policy = self.policy;
         let own = policy.written(s, t).and(policy.permitted(s, t));
         if own.has(operation) {
             return 0;
         }
-        lowest_giver(self.regime.grants, s, t, operation).unwrap()
+        lowest_giver(self.grants, s, t, operation).unwrap()
     }
 
     /// The step of the lowest operation of a set that is possible on a pair.
     fn lowest(&self, s: u16, t: u16, among: OperationSet) -> Option<Step>
-        ensures { LowestOf (meaning_of P.Policy.meaning self.now.regime) (grants_of self.now.regime) s t among.bits result }
+        ensures { LowestOf (meaning_of P.Policy.meaning self.now) (grants_of self.now) s t among.bits result }
     {
-        let operation = among.and(self.regime.possible(s, t)).lowest()?;
+        let operation = among.and(self.possible(s, t)).lowest()?;
         Some(Step {
             subject: s,
             target: t,
@@ -55,7 +56,7 @@ impl<P: Policy> Moves<'_, P> {
     /// The step that shows a move, if some legal run makes it: by the giver's lowest operation, or by the taker's where the
     /// giver has none.
     pub fn show(&self, chosen: Move) -> Option<Step>
-        ensures { ShownAs (meaning_of P.Policy.meaning self.now.regime) (grants_of self.now.regime) (moved chosen) result }
+        ensures { ShownAs (meaning_of P.Policy.meaning self.now) (grants_of self.now) (moved chosen) result }
     {
         match chosen {
             Move::Transition(c, d) => self.lowest(c, d, OperationSet::transition()),
@@ -66,5 +67,14 @@ impl<P: Policy> Moves<'_, P> {
             }
             Move::Contact(s, t) => self.lowest(s, t, OperationSet::all()),
         }
+    }
+}
+
+impl<P: Policy> Moves<'_, P> {
+    /// The step that shows a move of the regime, if some legal run makes it.
+    pub fn show(&self, chosen: Move) -> Option<Step>
+        ensures { ShownAs (meaning_of P.Policy.meaning self.now.regime) (grants_of self.now.regime) (moved chosen) result }
+    {
+        self.regime.show(chosen)
     }
 }

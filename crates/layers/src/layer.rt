@@ -1,7 +1,7 @@
 //! A layer over any policy.
 ghost use Rattle.std.specs.Prelude.{◌≡◌};
 ghost use Rattle.layers.specs.Layers.{with_rule};
-ghost use Rattle.layers.specs.Layered.{layer_sound};
+ghost use Rattle.layers.specs.Layered.{rule_sound};
 
 use crate::rule::Rule;
 use access::operation_set::OperationSet;
@@ -28,7 +28,7 @@ impl<P: Policy, R: Rule> Layer<P, R> {
 impl<P: Policy, R: Rule> Policy for Layer<P, R> {
     ghost meaning = { λ l. with_rule (P.meaning l.below) (R.left l.rule) };
 
-    ghost sound = { λ l. layer_sound (R.left l.rule) (R.no_more l.rule) (P.meaning l.below) (P.sound l.below) };
+    ghost sound = { λ l. rule_sound (R.left l.rule) (R.no_more l.rule) (P.meaning l.below) (P.sound l.below) };
 
     fn contexts(&self) -> u16 {
         self.below.contexts()

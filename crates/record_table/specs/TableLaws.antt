@@ -19,7 +19,7 @@ use Rattle.record_table.specs.Chains.{numbered, first_of, ahead, linked_to, with
 use Rattle.record_table.specs.Laid.{Laid}
 use Rattle.record_table.specs.TableMeaning.{chain_meaning, table_meaning, held, Has, Lacks, Pair}
 use Rattle.record_table.specs.ChainsLemmas.{upd, begins, ends}
-use Rattle.record_table.specs.Layouts.{Effect, written_is, written_after, filled_is, known_all, held_some}
+use Rattle.record_table.specs.Layouts.{Effect, written_is, written_after, filled_is, known_all, held_some, held_first}
 use Rattle.record_table.specs.Changing.{changed}
 use Rattle.record_table.specs.Adding.{added}
 use Rattle.record_table.specs.Removing.{removed, cut_first, cut_mem}
@@ -108,6 +108,10 @@ module _ (p : RecordTable) where
 
     some_written : (i : ℕ) → held p s t ≡ Some i → 1 ≤ (table_meaning p).written s t
     some_written i e = ∥∥₁_elim p.laid le_prop (λ l. rw (written_is n first mem l s t at) (held_some n first mem l s t i at e))
+
+    -- a context with a record has a chain
+    pub has_chain : (i : ℕ) → held p s t ≡ Some i → 1 ≤ first_of p.chains.heads s
+    has_chain i e = ∥∥₁_elim p.laid le_prop (λ l. held_first n first mem l s t i at e)
 
     -- nothing is needed for a pair that has a record; else an unused record
     pub room_for_own : (v i : ℕ) → Has p s t i → no_room (table_meaning p) s t v ≡ false

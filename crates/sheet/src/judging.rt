@@ -1,9 +1,12 @@
 //! A property that stands is judged.
 ghost use Rattle.std.specs.Prelude.{◌≡◌, length, replicate};
+ghost use Rattle.access.specs.Refusals.{answer};
+ghost use Rattle.sheet.specs.Book.{refusal};
 ghost use Rattle.sheet.specs.Entries.{in_order};
 ghost use Rattle.sheet.specs.Held.{held};
 ghost use Rattle.sheet.specs.Shown.{shown};
 ghost use Rattle.sheet.specs.Judging.{Judges};
+ghost use Rattle.sheet.specs.declared.request.Request.TheVariants.{Judge};
 
 use crate::sheet::Sheet;
 use access::policy::Policy;
@@ -11,6 +14,7 @@ use access::refusal::Refusal;
 use judge::judging::judge;
 use judge::moves::Moves;
 use judge::regime::Regime;
+use judge::seek::is_short;
 use judge::step::Step;
 use judge::verdict::Verdict;
 use search::breadth_first::Place;
@@ -63,6 +67,23 @@ impl<'a, P: Policy> Judging<'a, P> {
 }
 
 impl<P: Policy> Sheet<P> {
+    /// Checks that a property stands under a number, and then that the lent memory is long enough to judge it.
+    fn check_judging(
+        &self,
+        number: u16,
+        ticks: &[u8],
+        places: &[Place],
+        steps: &[Step],
+    ) -> Result<(), Refusal>
+        ensures { result ≡ answer (refusal (shown self.now) (Judge number (length ticks.now) (length places.now) (length steps.now))) }
+    {
+        self.properties.standing(number)?;
+        if is_short(2, self.policy.contexts(), ticks, places, steps) {
+            return Err(Refusal::ShortMemory);
+        }
+        Ok(())
+    }
+
     /// Judges one property, as `Judging` judges many.
     pub fn judge(
         &self,
@@ -74,6 +95,11 @@ impl<P: Policy> Sheet<P> {
         ensures answer { Judges (shown self.now) number ticks.old places.old places.new steps.old steps.new result }
         ensures ticks { ticks.new ≡ replicate (length ticks.old) 0 }
     {
+        // First, so that for a call that is refused no moves are worked out.
+        if let Err(why) = self.check_judging(number, ticks, places, steps) {
+            ticks.fill(0);
+            return Err(why);
+        }
         Judging::of(self).judge(number, ticks, places, steps)
     }
 }

@@ -1,5 +1,5 @@
 //! Pairs are set, and the settings of a change withdrawn.
-ghost use Rattle.std.specs.Prelude.{◌≡◌, true, OnErr};
+ghost use Rattle.std.specs.Prelude.{◌≡◌, true, [], OnErr};
 ghost use Rattle.access.specs.Refusals.{answer};
 ghost use Rattle.sheet.specs.Undo.{undo, undoable};
 ghost use Rattle.sheet.specs.Book.{notes_full, refusal, fed};
@@ -16,9 +16,10 @@ use access::refusal::Refusal;
 use access::setting::check_setting;
 
 /// Puts back every set that was noted, the latest first.
-fn put_back<P: Policy>(policy: &mut P, mut notes: Notes)
-    requires { undoable notes (P.Policy.meaning policy.old) ≡ true }
-    ensures { P.Policy.meaning policy.new ≡ undo notes (P.Policy.meaning policy.old) }
+fn put_back<P: Policy>(policy: &mut P, notes: &mut Notes)
+    requires { undoable notes.old (P.Policy.meaning policy.old) ≡ true }
+    ensures undone { P.Policy.meaning policy.new ≡ undo notes.old (P.Policy.meaning policy.old) }
+    ensures all { notes.new ≡ [] }
 {
     while let Some(note) = notes.take_latest() {
         // Never refused: it returns to what stood before.
@@ -69,14 +70,16 @@ impl<P: Policy> Sheet<P> {
         ensures done { shown self.new ≡ fed (shown self.old) Withdraw }
         ensures kept { OnErr result (self.new ≡ self.old) }
     {
-        let Some(notes) = self.change.take() else {
+        // Where they stand: the notes are 128 places, and not copied.
+        let Some(notes) = &mut self.change else {
             return Err(Undecided {
                 why: Refusal::NoneOpen,
                 change,
             });
         };
-        let Change { opened: () } = change;
         put_back(&mut self.policy, notes);
+        self.change = None;
+        let Change { opened: () } = change;
         Ok(())
     }
 }
