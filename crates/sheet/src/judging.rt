@@ -84,6 +84,22 @@ impl<P: Policy> Sheet<P> {
         Ok(())
     }
 
+    /// Judges a property over moves that are worked out for it alone.
+    // The moves are large, and at its entry a function pays for the size of what it holds: so this is one of its own.
+    #[inline(never)]
+    fn judge_alone(
+        &self,
+        number: u16,
+        ticks: &mut [u8],
+        places: &mut [Place],
+        steps: &mut [Step],
+    ) -> Result<Verdict, Refusal>
+        ensures answer { Judges (shown self.now) number ticks.old places.old places.new steps.old steps.new result }
+        ensures ticks { ticks.new ≡ replicate (length ticks.old) 0 }
+    {
+        Judging::of(self).judge(number, ticks, places, steps)
+    }
+
     /// Judges one property, as `Judging` judges many.
     pub fn judge(
         &self,
@@ -95,11 +111,11 @@ impl<P: Policy> Sheet<P> {
         ensures answer { Judges (shown self.now) number ticks.old places.old places.new steps.old steps.new result }
         ensures ticks { ticks.new ≡ replicate (length ticks.old) 0 }
     {
-        // First, so that for a call that is refused no moves are worked out.
+        // First, so that no moves are worked out for a call that is refused.
         if let Err(why) = self.check_judging(number, ticks, places, steps) {
             ticks.fill(0);
             return Err(why);
         }
-        Judging::of(self).judge(number, ticks, places, steps)
+        self.judge_alone(number, ticks, places, steps)
     }
 }
