@@ -24,5 +24,5 @@ pub mod Fit
 mod Verdicts
 mod Crosses
 mod Sets
-mod Shared
+pub mod Shared
 mod Sources

@@ -70,7 +70,7 @@ impl<P: Policy> Sheet<P> {
         ensures done { shown self.new ≡ fed (shown self.old) Withdraw }
         ensures kept { OnErr result (self.new ≡ self.old) }
     {
-        // Where they stand: the notes are 128 places, and not copied.
+        // Undone where they stand, since a copy would be of 128 places.
         let Some(notes) = &mut self.change else {
             return Err(Undecided {
                 why: Refusal::NoneOpen,

@@ -3,6 +3,7 @@ use access::context_set::ContextSet;
 use access::operation::Operation;
 use access::operation_set::OperationSet;
 use access::policy::Policy;
+use access::property::{Property, Template};
 use access::refusal::Refusal;
 use judge::activity::Activity;
 use judge::moves::Moves;
@@ -11,12 +12,22 @@ use judge::push::Push;
 use judge::regime::Regime;
 use judge::seek::seek;
 use judge::step::Step;
+use judge::verdict::Verdict;
 use record_table::table::RecordTable;
 use search::breadth_first::Place;
+use sheet::sheet::Sheet;
 use std::cell::Cell;
 use std::test::Fail;
 
 const CONTEXTS: u16 = 64;
+
+/// What stands in lent memory before.
+const UNWRITTEN: Step = Step {
+    subject: 0,
+    target: 0,
+    operation: Operation::Read,
+    origin: 0,
+};
 
 /// A policy that counts what it is asked.
 #[derive(Drop)]
@@ -85,19 +96,13 @@ fn questions<A: Activity>(table: RecordTable, to: u16) -> u32 {
         policy: &policy,
         grants: &[None; 32],
     };
-    let unwritten = Step {
-        subject: 0,
-        target: 0,
-        operation: Operation::Read,
-        origin: 0,
-    };
     let _ = seek::<A, Counting<'_, RecordTable>>(
         &Moves::of(regime),
         ContextSet::none().with(1),
         ContextSet::none().with(to),
         &mut [0; 128],
         &mut [Place::default(); 128],
-        &mut [unwritten; 64],
+        &mut [UNWRITTEN; 64],
     );
     asked.get()
 }
@@ -119,5 +124,45 @@ fn each_pair_is_asked_once(rt: HostRuntime) -> Result<(), Fail> {
         assert!(rt; push >= 2 * pairs && push <= most);
         assert!(rt; pull >= 2 * pairs && pull <= most);
     }
+    Ok(())
+}
+
+/// Judges a property over enough places and steps.
+fn judge<P: Policy>(sheet: &Sheet<P>, number: u16, ticks: &mut [u8]) -> Result<Verdict, Refusal> {
+    sheet.judge(
+        number,
+        ticks,
+        &mut [Place::default(); 128],
+        &mut [UNWRITTEN; 64],
+    )
+}
+
+#[test]
+fn a_refused_judging_asks_of_no_pair(rt: HostRuntime) -> Result<(), Fail> {
+    let Ok(below) = ring() else {
+        return Err(Fail::new("the ring is not accepted"));
+    };
+    let asked = Cell::new(0);
+    let mut sheet = Sheet::lay_out(Counting {
+        below,
+        asked: &asked,
+    });
+    let property = Property {
+        template: Template::Domain,
+        first: ContextSet::none().with(1),
+        second: ContextSet::none(),
+    };
+    assert!(rt; sheet.enter_property(1, property).is_ok());
+    let before = asked.get();
+    assert!(rt; judge(&sheet, 0, &mut [0; 128]) == Err(Refusal::NumberOutside));
+    assert!(rt; judge(&sheet, 65, &mut [0; 128]) == Err(Refusal::NumberOutside));
+    assert!(rt; judge(&sheet, 2, &mut [0; 128]) == Err(Refusal::StandsNot));
+    assert!(rt; asked.get() == before, "by the number alone");
+    assert!(rt; judge(&sheet, 1, &mut [0; 127]) == Err(Refusal::ShortMemory));
+    assert!(rt;
+        asked.get() == before.wrapping_add(1),
+        "for the number of contexts"
+    );
+    assert!(rt; judge(&sheet, 1, &mut [0; 128]).is_ok());
     Ok(())
 }
